@@ -1,0 +1,38 @@
+-- Runs of words: written one after the other, and compared.
+use Prim.Native.Nat.{ℕ, suc, _+_, _≤_, _<_}
+use mathlib.Core.Path.{_≡_, refl}
+use mathlib.Core.List.{List, [], _∷_, _++_}
+use mathlib.Core.Bool.{true, false}
+use native.Mathlib.Nat.{add-zero, add-suc, suc-add}
+use native.Mathlib.Numerals.{add-one}
+use native.Mathlib.Omega.{arith}
+use lib.ListN.{length, take, drop, set, drop-of-length-le}
+use lib.Seq.{sets, set-out, take-suc, drop-cons, length-take-le}
+use borrow.Author.Tests.{eq-eqb, ne-eqb}
+use Rattle.arena.specs.Layout.{word}
+use Rattle.arena.specs.Header.{agrees}
+
+-- two runs, the second behind the first, are one run
+pub sets-append : (vs ws l : List ℕ) (i : ℕ) → sets l i (vs ++ ws) ≡ sets (sets l i vs) (i + length vs) ws
+sets-append [] ws l i = rw add-zero
+sets-append (v ∷ vs) ws l i = rw (add-suc, ← suc-add) (sets-append vs ws (set l i v) (suc i))
+
+-- past the end nothing is written
+pub sets-out : (vs l : List ℕ) (i : ℕ) → length l ≤ i → sets l i vs ≡ l
+sets-out [] l i h = refl
+sets-out (v ∷ vs) l i h = rw (set-out l i v h) (sets-out vs l (suc i) (omega arith))
+
+-- a run grows by one word
+pub sets-grow : (vs l l₀ : List ℕ) (i k : ℕ) → k < length vs → l ≡ sets l₀ i (take k vs) → set l (i + k) (word vs k) ≡ sets l₀ i (take (k + 1) vs)
+sets-grow vs l l₀ i k h e =
+    rw (e, add-one, take-suc vs k 0 h, sets-append (take k vs) (word vs k ∷ []) l₀ i, length-take-le k vs (omega arith))
+
+-- a comparison past words that agree, at words that differ, and at its end
+pub agrees-on : (words vs : List ℕ) (k : ℕ) → k < length vs → word words k ≡ word vs k → agrees words k (drop k vs) ≡ agrees words (k + 1) (drop (k + 1) vs)
+agrees-on words vs k h e = rw (add-one, drop-cons vs k 0 h, eq-eqb _ _ e)
+
+pub agrees-not : (words vs : List ℕ) (k : ℕ) → k < length vs → (word words k ≡ word vs k → ⊥) → agrees words k (drop k vs) ≡ false
+agrees-not words vs k h e = rw (drop-cons vs k 0 h, ne-eqb _ _ e)
+
+pub agrees-end : (words vs : List ℕ) (k : ℕ) → length vs ≤ k → agrees words k (drop k vs) ≡ true
+agrees-end words vs k h = rw (drop-of-length-le vs h)

@@ -1,0 +1,24 @@
+use native.Mathlib.Omega.{arith}
+use borrow.Author.Needs.{needs}
+use Rattle.arena.specs.Layout.{headerWords}
+use Rattle.arena.proofs.Bounds.{Counts, counts, total-fits}
+use Rattle.arena.proofs.layout.header_words.Statement.{statement}
+use Rattle.arena.proofs.layout.header_words.Tie as tie
+
+fits : (c : tie.After-total) → Counts (c .before .before .args .workers) (c .before .before .args .nodes)
+fits c = counts (c .before .before .args .workers) (c .before .before .args .nodes) (c .before .before .pre)
+
+cast-t6 : tie.Need-cast-t6
+cast-t6 c = omega (arith, fits c, c .before .worker-from .ensures)
+
+cast-t7 : tie.Need-cast-t7
+cast-t7 c =
+    omega (arith, c .total .ensures, total-fits (c .before .before .args .workers) (c .before .before .args .nodes) (fits c))
+
+returns : tie.Need-returns
+unfolding headerWords
+returns c = rw (c .total .ensures, c .before .worker-from .ensures)
+
+pub header-words-spec : {M : Type 1} → statement M
+header-words-spec =
+    tie.close (tie.spec (search needs) (search needs) (search needs) cast-t6 cast-t7 returns)

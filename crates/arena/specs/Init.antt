@@ -1,0 +1,36 @@
+-- init (document 01: lay a fresh board).
+use Prim.Native.Nat.{ℕ, _-_}
+use mathlib.Core.List.{List, [], _∷_, _++_, flatten}
+use mathlib.Core.Bool.{not}
+use lib.ListN.{length, drop, replicate}
+use lib.Dec.{ltb}
+use Rattle.worker.specs.Node.{headNode, tailNode, unusedNode}
+use Rattle.worker.specs.Worker.{idleWorker}
+use Rattle.arena.specs.Layout.{layoutNumber, goodCounts, headerWords, total}
+use Rattle.arena.specs.Records.{workerWords, nodeWords}
+use Rattle.arena.specs.Replies.{Refusal, Reply, badCounts, shortArena, replied, written}
+
+-- a fresh arena: the header, idle workers, Head, Tail, and all other nodes unused
+unfoldable pub freshWords : ℕ → ℕ → List ℕ
+freshWords workers nodes =
+    headerWords layoutNumber workers nodes
+    ++ flatten (replicate workers (workerWords idleWorker))
+    ++ nodeWords headNode
+    ++ nodeWords tailNode
+    ++ flatten (replicate (nodes - 2) (nodeWords unusedNode))
+
+-- order: 10, 1
+unfoldable pub initRefusals : List ℕ → ℕ → ℕ → List Refusal
+initRefusals arena workers nodes =
+    (not (goodCounts workers nodes), badCounts)
+    ∷ (ltb (length arena) (total layoutNumber workers nodes), shortArena)
+    ∷ []
+
+unfoldable pub initAnswer : List ℕ → ℕ → ℕ → Reply
+initAnswer arena workers nodes = replied (initRefusals arena workers nodes) []
+
+-- words past the total stay
+unfoldable pub initArena : List ℕ → ℕ → ℕ → List ℕ
+initArena arena workers nodes =
+    written (initRefusals arena workers nodes) arena
+    (freshWords workers nodes ++ drop (total layoutNumber workers nodes) arena)

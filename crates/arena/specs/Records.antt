@@ -1,0 +1,56 @@
+-- Worker and node records as words of an arena.
+use Prim.Native.Nat.{ℕ, _+_}
+use mathlib.Core.List.{List, [], _∷_}
+use lib.Seq.{sets}
+use Rattle.worker.specs.declared.Node.{Node}
+use Rattle.worker.specs.declared.Worker.{Worker}
+use Rattle.arena.specs.Layout.{word, workerFrom, slot}
+
+-- worker record, 8 words: stage, operation, key, pred, curr, spare, answer, 0
+abbrev pub workerWords : Worker → List ℕ
+workerWords w =
+    w .stage ∷ w .operation ∷ w .key ∷ w .pred ∷ w .curr ∷ w .spare ∷ w .answer ∷ w .reserved ∷ []
+
+-- the record of a worker, read
+unfoldable pub workerAt : List ℕ → ℕ → Worker
+workerAt arena worker =
+    record {
+      stage = word arena (workerFrom worker);
+      operation = word arena (workerFrom worker + 1);
+      key = word arena (workerFrom worker + 2);
+      pred = word arena (workerFrom worker + 3);
+      curr = word arena (workerFrom worker + 4);
+      spare = word arena (workerFrom worker + 5);
+      answer = word arena (workerFrom worker + 6);
+      reserved = word arena (workerFrom worker + 7);
+    }
+
+-- the arena with the record of a worker written
+unfoldable pub withWorker : List ℕ → ℕ → Worker → List ℕ
+withWorker arena worker w = sets arena (workerFrom worker) (workerWords w)
+
+-- node record, 4 words: key, next, mark, owner
+abbrev pub nodeWords : Node → List ℕ
+nodeWords n = n .key ∷ n .next ∷ n .mark ∷ n .owner ∷ []
+
+abbrev pub keyField : ℕ
+keyField = 0
+
+abbrev pub nextField : ℕ
+nextField = 1
+
+abbrev pub markField : ℕ
+markField = 2
+
+abbrev pub ownerField : ℕ
+ownerField = 3
+
+-- a node, read from node records of some width
+unfoldable pub nodeAt : ℕ → List ℕ → ℕ → Node
+nodeAt width nodes node =
+    record {
+      key = word nodes (slot width node keyField);
+      next = word nodes (slot width node nextField);
+      mark = word nodes (slot width node markField);
+      owner = word nodes (slot width node ownerField);
+    }

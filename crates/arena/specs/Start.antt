@@ -1,0 +1,28 @@
+-- start: a call on a worker.
+use Prim.Native.Nat.{ℕ}
+use mathlib.Core.List.{List, [], _∷_, _++_}
+use mathlib.Core.Bool.{not}
+use lib.Dec.{leb, ltb, eqb}
+use Rattle.worker.specs.Worker.{isCall, idleStage, lastStage, startedWorker}
+use Rattle.arena.specs.Layout.{workersOf}
+use Rattle.arena.specs.Records.{workerAt, withWorker}
+use Rattle.arena.specs.Replies.{Refusal, Reply, noSuchWorker, brokenRecord, busy, badCall, replied, written}
+use Rattle.arena.specs.Header.{headerRefusals}
+
+-- order: 1, 2, 3, 6, 4, 5
+unfoldable pub startRefusals : List ℕ → ℕ → ℕ → ℕ → List Refusal
+startRefusals arena worker operation key =
+    headerRefusals arena
+    ++ (leb (workersOf arena) worker, noSuchWorker)
+    ∷ (ltb lastStage (workerAt arena worker .stage), brokenRecord)
+    ∷ (not (eqb (workerAt arena worker .stage) idleStage), busy)
+    ∷ (not (isCall operation key), badCall)
+    ∷ []
+
+unfoldable pub startAnswer : List ℕ → ℕ → ℕ → ℕ → Reply
+startAnswer arena worker operation key = replied (startRefusals arena worker operation key) []
+
+-- a start writes the worker's record
+unfoldable pub startArena : List ℕ → ℕ → ℕ → ℕ → List ℕ
+startArena arena worker operation key =
+    written (startRefusals arena worker operation key) arena (withWorker arena worker (startedWorker operation key))

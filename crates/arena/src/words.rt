@@ -1,0 +1,48 @@
+// Words read and written, whatever the place: past the end a read gives 0 and a write does nothing.
+ghost use mathlib.Core.Path.{_≡_};
+ghost use lib.ListN.{set};
+ghost use lib.Seq.{sets};
+ghost use Rattle.arena.specs.Layout.{word};
+ghost use Rattle.arena.specs.Header.{agrees};
+
+pub fn word(words: &[u16], at: usize) -> u16
+    ensures { λ r. ⌜ r ≡ word (now (words .entry)) at ⌝ }
+{
+    if at < words.len() { words[at] } else { 0 }
+}
+
+pub fn put(words: &mut [u16], at: usize, value: u16)
+    ensures { λ _. ⌜ now (words .exit) ≡ set (now (words .entry)) at value ⌝ }
+{
+    if at < words.len() {
+        words[at] = value;
+    }
+}
+
+// The values from a place on.
+pub fn write(words: &mut [u16], at: usize, values: &[u16])
+    ensures { λ _. ⌜ now (words .exit) ≡ sets (now (words .entry)) at (now (values .entry)) ⌝ }
+{
+    if words.len() <= at {
+        return;
+    }
+    let mut i = 0;
+    while i < values.len() {
+        put(words, at + i, values[i]);
+        i += 1;
+    }
+}
+
+// Whether the first words are these.
+pub fn agree(words: &[u16], values: &[u16]) -> bool
+    ensures { λ r. ⌜ r ≡ agrees (now (words .entry)) 0 (now (values .entry)) ⌝ }
+{
+    let mut i = 0;
+    while i < values.len() {
+        if word(words, i) != values[i] {
+            return false;
+        }
+        i += 1;
+    }
+    true
+}

@@ -1,0 +1,139 @@
+// The records of the lazy list as values: a node and a worker. Nothing here knows of an arena's words.
+ghost use mathlib.Core.Path.{_≡_};
+ghost use Rattle.worker.specs.Node.{headNode, tailNode, unusedNode};
+ghost use Rattle.worker.specs.Worker.{isCall, idleWorker, firstStage, startedWorker};
+
+// Document 01's node record.
+pub struct Node {
+    pub key: u16,
+    pub next: u16,
+    // 0 unmarked, anything else marked
+    pub mark: u16,
+    // 0 nobody, otherwise the worker's number + 1
+    pub owner: u16,
+}
+
+impl Node {
+    // Node numbers: Head, Tail, and no node.
+    pub const HEAD: u16 = 0;
+
+    pub const TAIL: u16 = 1;
+
+    pub const NONE: u16 = 65535;
+
+    // Every key of a call lies between these two.
+    pub const HEAD_KEY: u16 = 0;
+
+    pub const TAIL_KEY: u16 = 65535;
+
+    pub fn head() -> Self
+        ensures { λ r. ⌜ r ≡ headNode ⌝ }
+    {
+        Node {
+            key: Self::HEAD_KEY,
+            next: Self::TAIL,
+            mark: 0,
+            owner: 0,
+        }
+    }
+
+    pub fn tail() -> Self
+        ensures { λ r. ⌜ r ≡ tailNode ⌝ }
+    {
+        Node {
+            key: Self::TAIL_KEY,
+            next: Self::TAIL,
+            mark: 0,
+            owner: 0,
+        }
+    }
+
+    pub fn unused() -> Self
+        ensures { λ r. ⌜ r ≡ unusedNode ⌝ }
+    {
+        Node {
+            key: 0,
+            next: 0,
+            mark: 0,
+            owner: 0,
+        }
+    }
+}
+
+// Document 01's worker record.
+pub struct Worker {
+    pub stage: u16,
+    pub operation: u16,
+    pub key: u16,
+    pub pred: u16,
+    pub curr: u16,
+    pub spare: u16,
+    pub answer: u16,
+    pub reserved: u16,
+}
+
+impl Worker {
+    // Operations of a call.
+    pub const ADD: u16 = 1;
+
+    pub const REMOVE: u16 = 2;
+
+    pub const CONTAINS: u16 = 3;
+
+    // Stages: idle, the first of add and remove, the first of contains, the last of all.
+    pub const IDLE_STAGE: u16 = 0;
+
+    pub const SEARCH_STAGE: u16 = 1;
+
+    pub const LOOK_UP_STAGE: u16 = 22;
+
+    pub const LAST_STAGE: u16 = 25;
+
+    pub fn idle() -> Self
+        ensures { λ r. ⌜ r ≡ idleWorker ⌝ }
+    {
+        Worker {
+            stage: Self::IDLE_STAGE,
+            operation: 0,
+            key: 0,
+            pred: Node::NONE,
+            curr: Node::NONE,
+            spare: Node::NONE,
+            answer: 0,
+            reserved: 0,
+        }
+    }
+
+    // A worker at the beginning of a call.
+    pub fn started(operation: u16, key: u16) -> Self
+        ensures { λ r. ⌜ r ≡ startedWorker operation key ⌝ }
+    {
+        Worker {
+            stage: first_stage(operation),
+            operation,
+            key,
+            pred: Node::NONE,
+            curr: Node::NONE,
+            spare: Node::NONE,
+            answer: 0,
+            reserved: 0,
+        }
+    }
+}
+
+fn first_stage(operation: u16) -> u16
+    ensures { λ r. ⌜ r ≡ firstStage operation ⌝ }
+{
+    if operation == Worker::CONTAINS {
+        Worker::LOOK_UP_STAGE
+    } else {
+        Worker::SEARCH_STAGE
+    }
+}
+
+// An operation that there is, on a key that a call may have.
+pub fn is_call(operation: u16, key: u16) -> bool
+    ensures { λ r. ⌜ r ≡ isCall operation key ⌝ }
+{
+    ((1 <= operation) & (operation <= 3)) & ((1 <= key) & (key <= 65534))
+}
