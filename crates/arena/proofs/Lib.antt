@@ -1,3 +1,7 @@
 -- Laws that the proofs of the functions cite.
 pub mod Runs
 pub mod Bounds
+pub mod Judged
+pub mod FreshLaws
+pub mod Walks
+pub mod HeaderLaws

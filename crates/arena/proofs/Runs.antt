@@ -1,12 +1,12 @@
 -- Runs of words: written one after the other, and compared.
-use Prim.Native.Nat.{ℕ, suc, _+_, _≤_, _<_}
-use mathlib.Core.Path.{_≡_, refl}
-use mathlib.Core.List.{List, [], _∷_, _++_}
+use Prim.Native.Nat.{ℕ, zero, suc, _+_, _*_, _-_, _≤_, _<_}
+use mathlib.Core.Path.{_≡_, refl, sym}
+use mathlib.Core.List.{List, [], _∷_, _++_, flatten}
 use mathlib.Core.Bool.{true, false}
-use native.Mathlib.Nat.{add-zero, add-suc, suc-add}
-use native.Mathlib.Numerals.{add-one}
+use native.Mathlib.Nat.{add-zero, add-suc, suc-add, mul-zero, mul-suc}
+use native.Mathlib.Numerals.{add-one, sub-one}
 use native.Mathlib.Omega.{arith}
-use lib.ListN.{length, take, drop, set, drop-of-length-le}
+use lib.ListN.{length, take, drop, set, replicate, length-append, drop-of-length-le}
 use lib.Seq.{sets, set-out, take-suc, drop-cons, length-take-le}
 use borrow.Author.Tests.{eq-eqb, ne-eqb}
 use Rattle.arena.specs.Layout.{word}
@@ -16,6 +16,18 @@ use Rattle.arena.specs.Header.{agrees}
 pub sets-append : (vs ws l : List ℕ) (i : ℕ) → sets l i (vs ++ ws) ≡ sets (sets l i vs) (i + length vs) ws
 sets-append [] ws l i = rw add-zero
 sets-append (v ∷ vs) ws l i = rw (add-suc, ← suc-add) (sets-append vs ws (set l i v) (suc i))
+
+-- the first of some copies, and then the others
+pub copies-on : (vs l : List ℕ) (i k : ℕ) → 0 < k →
+    sets l i (flatten (replicate k vs)) ≡ sets (sets l i vs) (i + length vs) (flatten (replicate (k - 1) vs))
+unfolding flatten
+copies-on vs l i zero h = absurd (omega arith)
+copies-on vs l i (suc k) h = rw (sub-one) (sets-append vs (flatten (replicate k vs)) l i)
+
+pub length-copies : (k : ℕ) (vs : List ℕ) → length (flatten (replicate k vs)) ≡ length vs * k
+unfolding flatten
+length-copies zero vs = sym (mul-zero (length vs))
+length-copies (suc k) vs = rw (length-append, length-copies k vs, mul-suc) (omega arith)
 
 -- past the end nothing is written
 pub sets-out : (vs l : List ℕ) (i : ℕ) → length l ≤ i → sets l i vs ≡ l

@@ -4,38 +4,38 @@ use mathlib.Core.List.{List, [], _∷_}
 use mathlib.Core.Bool.{Bool, cond}
 use Rattle.arena.specs.declared.Verdict.{Verdict}
 use Rattle.arena.specs.declared.Verdict.the-variants as verdict
-use Rattle.arena.specs.declared.Snapshot.{Snapshot}
-use Rattle.arena.specs.declared.Snapshot.the-variants as snapshot
+use Rattle.arena.specs.declared.Listing.{Listing}
+use Rattle.arena.specs.declared.Listing.the-variants as listing
 
 -- the refusals, with document 01's words
-abbrev pub shortArena : ℕ -- "short board"
+abbrev pub shortArena : ℕ  -- "short board"
 shortArena = 1
 
-abbrev pub oddHeader : ℕ -- "odd header"
+abbrev pub oddHeader : ℕ  -- "odd header"
 oddHeader = 2
 
-abbrev pub noSuchWorker : ℕ -- "no such worker"
+abbrev pub noSuchWorker : ℕ  -- "no such worker"
 noSuchWorker = 3
 
-abbrev pub busy : ℕ -- "busy"
+abbrev pub busy : ℕ  -- "busy"
 busy = 4
 
-abbrev pub badCall : ℕ -- "bad call"
+abbrev pub badCall : ℕ  -- "bad call"
 badCall = 5
 
-abbrev pub brokenRecord : ℕ -- "broken record"
+abbrev pub brokenRecord : ℕ  -- "broken record"
 brokenRecord = 6
 
-abbrev pub brokenChain : ℕ -- "broken chain"
+abbrev pub brokenChain : ℕ  -- "broken chain"
 brokenChain = 7
 
-abbrev pub noRoom : ℕ -- "no room"
+abbrev pub noRoom : ℕ  -- "no room"
 noRoom = 8
 
-abbrev pub badSchedule : ℕ -- "bad schedule"
+abbrev pub badSchedule : ℕ  -- "bad schedule"
 badSchedule = 9
 
-abbrev pub badCounts : ℕ -- "bad counts"
+abbrev pub badCounts : ℕ  -- "bad counts"
 badCounts = 10
 
 -- a reply: the number of a refusal alone, or the values asked for
@@ -48,9 +48,9 @@ abbrev pub verdictReply : Verdict → Reply
 verdictReply verdict.Accepted = accepted []
 verdictReply (verdict.Refused number) = refused number
 
-abbrev pub snapshotReply : Snapshot → Reply
-snapshotReply (snapshot.Taken count) = accepted (count ∷ [])
-snapshotReply (snapshot.Refused number) = refused number
+abbrev pub listingReply : Listing → Reply
+listingReply (listing.Keys count) = accepted (count ∷ [])
+listingReply (listing.Refused number) = refused number
 
 -- a test that refuses where it holds, with its number
 abbrev pub Refusal : Type 0

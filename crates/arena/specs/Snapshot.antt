@@ -21,6 +21,12 @@ walk width nodes count (suc steps) last node =
     (some [])
     (cond (ltb node count && ltb last (nodeAt width nodes node .key)) (Option·map (λ rest. node ∷ rest) onward) none)
 
+-- the keys of so many nodes, from `node` on by next links alone
+unfoldable pub linkedKeys : ℕ → List ℕ → ℕ → ℕ → List ℕ
+linkedKeys width nodes zero node = []
+linkedKeys width nodes (suc steps) node =
+    nodeAt width nodes node .key ∷ linkedKeys width nodes steps (nodeAt width nodes node .next)
+
 -- the nodes between Head and Tail; the rising begins with Head's key
 unfoldable pub chain : ℕ → List ℕ → ℕ → Option (List ℕ)
 chain width nodes count = walk width nodes count 65536 (nodeAt width nodes head .key) (nodeAt width nodes head .next)
@@ -34,14 +40,15 @@ isNone none = true
 isNone (some a) = false
 
 -- a broken chain: 7; keys that do not fit the room: 8
+unfoldable pub chainBroken : ℕ → List ℕ → ℕ → Refusal
+chainBroken width nodes count = (isNone (chain width nodes count), brokenChain)
+
 unfoldable pub chainRefusals : ℕ → List ℕ → ℕ → ℕ → List Refusal
 chainRefusals width nodes count room =
-    (isNone (chain width nodes count), brokenChain)
-    ∷ (ltb room (length (chainKeys width nodes count)), noRoom)
-    ∷ []
+    chainBroken width nodes count ∷ (ltb room (length (chainKeys width nodes count)), noRoom) ∷ []
 
 -- the keys of an arena's chain
-abbrev pub keysOf : List ℕ → List ℕ
+unfoldable pub keysOf : List ℕ → List ℕ
 keysOf arena = chainKeys (nodeWidth (layoutOf arena)) (nodePart arena) (nodesOf arena)
 
 -- order: 1, 2, 7, 8

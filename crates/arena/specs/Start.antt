@@ -9,15 +9,18 @@ use Rattle.arena.specs.Records.{workerAt, withWorker}
 use Rattle.arena.specs.Replies.{Refusal, Reply, noSuchWorker, brokenRecord, busy, badCall, replied, written}
 use Rattle.arena.specs.Header.{headerRefusals}
 
--- order: 1, 2, 3, 6, 4, 5
-unfoldable pub startRefusals : List ℕ → ℕ → ℕ → ℕ → List Refusal
-startRefusals arena worker operation key =
-    headerRefusals arena
-    ++ (leb (workersOf arena) worker, noSuchWorker)
+-- no such worker: 3; a stage above 25: 6; a stage not 0: 4; no call: 5
+unfoldable pub callRefusals : List ℕ → ℕ → ℕ → ℕ → List Refusal
+callRefusals arena worker operation key =
+    (leb (workersOf arena) worker, noSuchWorker)
     ∷ (ltb lastStage (workerAt arena worker .stage), brokenRecord)
     ∷ (not (eqb (workerAt arena worker .stage) idleStage), busy)
     ∷ (not (isCall operation key), badCall)
     ∷ []
+
+-- order: 1, 2, 3, 6, 4, 5
+unfoldable pub startRefusals : List ℕ → ℕ → ℕ → ℕ → List Refusal
+startRefusals arena worker operation key = headerRefusals arena ++ callRefusals arena worker operation key
 
 unfoldable pub startAnswer : List ℕ → ℕ → ℕ → ℕ → Reply
 startAnswer arena worker operation key = replied (startRefusals arena worker operation key) []

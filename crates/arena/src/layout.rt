@@ -6,23 +6,32 @@ ghost use Rattle.arena.specs.Layout.{nodeWidth, workerFrom, slot, total,
 
 // Header words.
 pub const LAYOUT_AT: usize = 0;
+
 pub const WORKERS_AT: usize = 1;
+
 pub const NODES_AT: usize = 2;
+
 pub const NODES_FROM_AT: usize = 4;
+
 pub const TOTAL_AT: usize = 5;
 
 // Words of the header and of a worker record.
 pub const HEADER_WIDTH: usize = 8;
+
 pub const WORKER_WIDTH: usize = 8;
 
 // The one layout, and the words of its node records.
 pub const LAYOUT: u16 = 1;
+
 pub const NODE_WIDTH: u16 = 4;
 
 // Fields of a node record.
 pub const KEY: u16 = 0;
+
 pub const NEXT: u16 = 1;
+
 pub const MARK: u16 = 2;
+
 pub const OWNER: u16 = 3;
 
 // Words of a node record, by layout number; 0 where there is no such layout.
@@ -67,7 +76,7 @@ pub fn good_counts(workers: u16, nodes: u16) -> bool
 }
 
 // The header of an arena with these counts.
-pub fn header_words(workers: u16, nodes: u16) -> [u16; 8]
+pub(crate) fn header_words(workers: u16, nodes: u16) -> [u16; 8]
     requires { ⌜ goodCounts workers nodes ≡ true ⌝ }
     ensures { λ r. ⌜ r ≡ headerWords layoutNumber workers nodes ⌝ }
 {

@@ -1,8 +1,22 @@
 // An arena of lent 16-bit words (document 01: board): a header, worker records and node records.
+ghost use mathlib.Core.Path.{_≡_};
+ghost use mathlib.Core.List.{[]};
+ghost use lib.ListN.{length};
+ghost use Rattle.arena.specs.Replies.{verdictReply, listingReply, replied};
+ghost use Rattle.arena.specs.Init.{initAnswer, initArena};
+ghost use Rattle.arena.specs.Start.{callRefusals, startRefusals, startAnswer, startArena};
+ghost use Rattle.arena.specs.Snapshot.{snapshotAnswer, snapshotWords};
+use worker::Worker;
+
+mod chain;
+mod fresh;
+mod header;
 pub mod layout;
 pub mod records;
 pub mod refusal;
 pub mod words;
+
+pub use header::header_verdict;
 
 // What a call that only may be refused answers.
 pub enum Verdict {
@@ -11,7 +25,75 @@ pub enum Verdict {
 }
 
 // What a snapshot answers: the count of the keys, or a refusal.
-pub enum Snapshot {
-    Taken(u16),
+pub enum Listing {
+    Keys(u16),
     Refused(u16),
+}
+
+// Lays a fresh arena (document 01: lay). Words past its total stay.
+pub fn init(arena: &mut [u16], workers: u16, nodes: u16) -> Verdict
+    ensures answer { λ r. ⌜ verdictReply r ≡ initAnswer (now (arena .entry)) workers nodes ⌝ }
+    ensures words { λ _. ⌜ now (arena .exit) ≡ initArena (now (arena .entry)) workers nodes ⌝ }
+{
+    let verdict = fresh::init_verdict(arena, workers, nodes);
+    if let Verdict::Accepted = verdict {
+        fresh::write_fresh(arena, workers, nodes);
+    }
+    verdict
+}
+
+// Starts a call on a worker.
+pub fn start(arena: &mut [u16], worker: u16, operation: u16, key: u16) -> Verdict
+    ensures answer { λ r. ⌜ verdictReply r ≡ startAnswer (now (arena .entry)) worker operation key ⌝ }
+    ensures words { λ _. ⌜ now (arena .exit) ≡ startArena (now (arena .entry)) worker operation key ⌝ }
+{
+    let verdict = start_verdict(arena, worker, operation, key);
+    if let Verdict::Accepted = verdict {
+        records::write_worker(arena, worker, Worker::started(operation, key));
+    }
+    verdict
+}
+
+fn start_verdict(arena: &[u16], worker: u16, operation: u16, key: u16) -> Verdict
+    ensures { λ r. ⌜ verdictReply r ≡ replied (startRefusals (now (arena .entry)) worker operation key) [] ⌝ }
+{
+    let verdict = header_verdict(arena);
+    if let Verdict::Refused(_) = verdict {
+        return verdict;
+    }
+    call_verdict(arena, worker, operation, key)
+}
+
+fn call_verdict(arena: &[u16], worker: u16, operation: u16, key: u16) -> Verdict
+    ensures { λ r. ⌜ verdictReply r ≡ replied (callRefusals (now (arena .entry)) worker operation key) [] ⌝ }
+{
+    if words::word(arena, layout::WORKERS_AT) <= worker {
+        return Verdict::Refused(refusal::NO_SUCH_WORKER);
+    }
+    let stage = records::read_worker(arena, worker).stage;
+    if Worker::LAST_STAGE < stage {
+        return Verdict::Refused(refusal::BROKEN_RECORD);
+    }
+    if stage != Worker::IDLE_STAGE {
+        return Verdict::Refused(refusal::BUSY);
+    }
+    if !worker::is_call(operation, key) {
+        return Verdict::Refused(refusal::BAD_CALL);
+    }
+    Verdict::Accepted
+}
+
+// The keys on the chain between Head and Tail, in chain order (document 01: the roll). Words past them stay.
+pub fn snapshot(arena: &[u16], keys: &mut [u16]) -> Listing
+    ensures answer { λ r. ⌜ listingReply r ≡ snapshotAnswer (now (arena .entry)) (length (now (keys .entry))) ⌝ }
+    ensures words { λ _. ⌜ now (keys .exit) ≡ snapshotWords (now (arena .entry)) (now (keys .entry)) ⌝ }
+{
+    if let Verdict::Refused(number) = header_verdict(arena) {
+        return Listing::Refused(number);
+    }
+    let from = words::word(arena, layout::NODES_FROM_AT) as usize;
+    let total = words::word(arena, layout::TOTAL_AT) as usize;
+    let width = layout::node_width(words::word(arena, layout::LAYOUT_AT));
+    let count = words::word(arena, layout::NODES_AT);
+    chain::write_keys(&arena[from..total], width, count, keys)
 }

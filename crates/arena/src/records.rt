@@ -9,7 +9,7 @@ use crate::words::write;
 use worker::Node;
 use worker::Worker;
 
-pub fn worker_words(worker: Worker) -> [u16; 8]
+pub(crate) fn worker_words(worker: Worker) -> [u16; 8]
     ensures { λ r. ⌜ r ≡ workerWords worker ⌝ }
 {
     [
@@ -47,7 +47,7 @@ pub fn write_worker(arena: &mut [u16], number: u16, worker: Worker)
     write(arena, worker_from(number), &words);
 }
 
-pub fn node_words(node: Node) -> [u16; 4]
+pub(crate) fn node_words(node: Node) -> [u16; 4]
     ensures { λ r. ⌜ r ≡ nodeWords node ⌝ }
 {
     [node.key, node.next, node.mark, node.owner]

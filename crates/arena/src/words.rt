@@ -20,7 +20,7 @@ pub fn put(words: &mut [u16], at: usize, value: u16)
 }
 
 // The values from a place on.
-pub fn write(words: &mut [u16], at: usize, values: &[u16])
+pub(crate) fn write(words: &mut [u16], at: usize, values: &[u16])
     ensures { λ _. ⌜ now (words .exit) ≡ sets (now (words .entry)) at (now (values .entry)) ⌝ }
 {
     if words.len() <= at {
@@ -34,7 +34,7 @@ pub fn write(words: &mut [u16], at: usize, values: &[u16])
 }
 
 // Whether the first words are these.
-pub fn agree(words: &[u16], values: &[u16]) -> bool
+pub(crate) fn agree(words: &[u16], values: &[u16]) -> bool
     ensures { λ r. ⌜ r ≡ agrees (now (words .entry)) 0 (now (values .entry)) ⌝ }
 {
     let mut i = 0;

@@ -1,0 +1,168 @@
+-- Laws of the walk along the chain.
+use Prim.Native.Nat.{ℕ, zero, suc, _+_, _-_, _≤_, _<_}
+use mathlib.Core.Path.{_≡_, refl, sym, ap, _∙_}
+use mathlib.Core.List.{List, [], _∷_, _++_, map}
+use mathlib.Core.Bool.{Bool, true, false, cond, _&&_}
+use mathlib.Core.Option.{Option, none, some, Option·map, Option·getD}
+use native.Mathlib.Omega.{arith}
+use native.Mathlib.Nat.{zero-add, add-zero}
+use native.Mathlib.Numerals.{add-one}
+use lib.ListN.{length, drop, set, length-map}
+use lib.Seq.{sets, sets-eq}
+use lib.Dec.{ltb, eqb}
+use borrow.Author.Tests.{eq-eqb, ne-eqb, lt-ltb, le-ltb}
+use Rattle.worker.specs.Node.{head, tail}
+use Rattle.worker.specs.declared.Node.{Node}
+use Rattle.arena.specs.Records.{nodeAt}
+use Rattle.arena.specs.Replies.{Refusal, refused, accepted, brokenChain, noRoom, judged, replied}
+use Rattle.arena.proofs.Judged.{none-holds, given-values, refused-first, accepted-first}
+use Rattle.arena.specs.Snapshot.{walk, linkedKeys, chain, chainKeys, chainBroken, chainRefusals, isNone}
+
+-- how many nodes a walk passes, behind some that were passed before
+abbrev pub ahead : ℕ → Option (List ℕ) → Option ℕ
+ahead before none = none
+ahead before (some ns) = some (before + length ns)
+
+ahead-on : (before node : ℕ) (onward : Option (List ℕ)) → ahead before (Option·map (λ rest. node ∷ rest) onward) ≡ ahead (before + 1) onward
+ahead-on before node none = refl
+ahead-on before node (some ns) = ap some (omega arith)
+
+-- with a step left, one is less after it
+less : {steps k : ℕ} → k < steps → steps - k ≡ suc (steps - (k + 1))
+less h = omega arith
+
+module _ (width : ℕ) (nodes : List ℕ) (count : ℕ) where
+  -- a walk at Tail, at a link of N or more, at a key that does not rise, and at a node that it passes
+  pub walk-end : (steps before last node : ℕ) → before < steps → node ≡ tail →
+      ahead before (walk width nodes count (steps - before) last node) ≡ some before
+  unfolding walk
+  walk-end steps before last node h t = rw (less h, eq-eqb _ _ t) (ap some (add-zero before))
+
+  pub walk-out : (steps before last node : ℕ) → before < steps → (node ≡ tail → ⊥) → count ≤ node →
+      ahead before (walk width nodes count (steps - before) last node) ≡ none
+  unfolding walk
+  walk-out steps before last node h t k = rw (less h, ne-eqb _ _ t, le-ltb _ _ k)
+
+  pub walk-fall : (steps before last node : ℕ) → before < steps → (node ≡ tail → ⊥) → node < count → nodeAt width nodes node .key ≤ last →
+      ahead before (walk width nodes count (steps - before) last node) ≡ none
+  unfolding walk
+  walk-fall steps before last node h t k l = rw (less h, ne-eqb _ _ t, lt-ltb _ _ k, le-ltb _ _ l)
+
+  pub walk-on : (steps before last node : ℕ) → before < steps → (node ≡ tail → ⊥) → node < count → last < nodeAt width nodes node .key →
+      ahead before (walk width nodes count (steps - before) last node)
+      ≡ ahead (before + 1) (walk width nodes count (steps - (before + 1)) (nodeAt width nodes node .key) (nodeAt width nodes node .next))
+  unfolding walk
+  walk-on steps before last node h t k l = rw (less h, ne-eqb _ _ t, lt-ltb _ _ k, lt-ltb _ _ l)
+      (ahead-on before node (walk width nodes count (steps - (before + 1)) (nodeAt width nodes node .key) (nodeAt width nodes node .next)))
+
+  -- the keys along the next links, written one by one
+  pub keys-on : (keys : List ℕ) (i steps node : ℕ) → i < steps →
+      sets keys i (linkedKeys width nodes (steps - i) node)
+      ≡ sets (set keys i (nodeAt width nodes node .key)) (i + 1) (linkedKeys width nodes (steps - (i + 1)) (nodeAt width nodes node .next))
+  unfolding linkedKeys
+  keys-on keys i steps node h = rw (less h, add-one)
+
+  -- what the length of the walk from Head says
+  pub broken : (first : Node) (values : List ℕ) → first ≡ nodeAt width nodes head →
+      ahead 0 (walk width nodes count 65536 (first .key) (first .next)) ≡ none →
+      refused brokenChain ≡ replied (chainBroken width nodes count ∷ []) values
+  unfolding chainBroken chain
+  broken first values f e =
+      go (walk width nodes count 65536 (nodeAt width nodes head .key) (nodeAt width nodes head .next)) (rw f at e)
+    where
+      go : (o : Option (List ℕ)) → ahead 0 o ≡ none → refused brokenChain ≡ cond (isNone o) (refused brokenChain) (accepted values)
+      go none e = refl
+      go (some ns) e = let z : _≡_ {A = ℕ} 0 1 = cc in absurd (omega arith)
+
+  pub whole : (first : Node) (n : ℕ) → first ≡ nodeAt width nodes head →
+      ahead 0 (walk width nodes count 65536 (first .key) (first .next)) ≡ some n →
+      accepted (n ∷ []) ≡ replied (chainBroken width nodes count ∷ []) (length (chainKeys width nodes count) ∷ [])
+  unfolding chainBroken chainKeys chain
+  whole first n f e =
+      go (walk width nodes count 65536 (nodeAt width nodes head .key) (nodeAt width nodes head .next)) (rw f at e)
+    where
+      go : (o : Option (List ℕ)) → ahead 0 o ≡ some n →
+          accepted (n ∷ [])
+          ≡ cond (isNone o) (refused brokenChain) (accepted (length (map (λ (node : ℕ). nodeAt width nodes node .key) (Option·getD o [])) ∷ []))
+      go none e = let z : _≡_ {A = ℕ} 0 1 = cc in absurd (omega arith)
+      go (some ns) e = let z : 0 + length ns ≡ n = cc in rw (← z, zero-add, length-map)
+
+  -- a walk goes along the next links
+  pub walk-linked : (steps last node : ℕ) (ns : List ℕ) → walk width nodes count steps last node ≡ some ns →
+      linkedKeys width nodes (length ns) node ≡ map (λ (n : ℕ). nodeAt width nodes n .key) ns
+  unfolding walk linkedKeys
+  walk-linked zero last node ns e = let z : _≡_ {A = ℕ} 0 1 = cc in absurd (omega arith)
+  walk-linked (suc steps) last node ns e =
+      go (eqb node tail) (ltb node count && ltb last (nodeAt width nodes node .key))
+      (walk width nodes count steps (nodeAt width nodes node .key) (nodeAt width nodes node .next))
+      (λ rest. walk-linked steps (nodeAt width nodes node .key) (nodeAt width nodes node .next) rest)
+      e
+    where
+      keys : List ℕ → List ℕ
+      keys = map (λ (n : ℕ). nodeAt width nodes n .key)
+
+      go : (t u : Bool) (onward : Option (List ℕ)) →
+          ((rest : List ℕ) → onward ≡ some rest → linkedKeys width nodes (length rest) (nodeAt width nodes node .next) ≡ keys rest) →
+          cond t (some []) (cond u (Option·map (λ rest. node ∷ rest) onward) none) ≡ some ns →
+          linkedKeys width nodes (length ns) node ≡ keys ns
+      go true u onward more e = let z : [] ≡ ns = cc in rw (← z)
+      go false true none more e = let z : _≡_ {A = ℕ} 0 1 = cc in absurd (omega arith)
+      go false true (some rest) more e =
+          let z : node ∷ rest ≡ ns = cc in
+          rw (← z) (ap (λ (l : List ℕ). nodeAt width nodes node .key ∷ l) (more rest refl))
+      go false false onward more e = let z : _≡_ {A = ℕ} 0 1 = cc in absurd (omega arith)
+
+  tooLong : ℕ → Refusal
+  tooLong room = (ltb room (length (chainKeys width nodes count)), noRoom)
+
+  -- what follows of a survey that met a break
+  pub keys-broken : {A : Type 0} (room number : ℕ) (values : List ℕ) (refuse : ℕ → A) (accept : A) →
+      refused number ≡ replied (chainBroken width nodes count ∷ []) values →
+      judged (chainRefusals width nodes count room) refuse accept ≡ refuse number
+  unfolding chainRefusals tooLong
+  keys-broken room number values refuse accept =
+      refused-first (chainBroken width nodes count ∷ []) (tooLong room ∷ []) values refuse accept
+
+  -- what follows of a survey that found n nodes
+  module _ (n : ℕ) (found : accepted (n ∷ []) ≡ replied (chainBroken width nodes count ∷ []) (length (chainKeys width nodes count) ∷ [])) where
+    pub keys-count : length (chainKeys width nodes count) ≡ n
+    keys-count =
+        let same : n ∷ [] ≡ length (chainKeys width nodes count) ∷ [] = given-values (chainBroken width nodes count ∷ []) _ found in
+        cc
+
+    pub keys-linked : linkedKeys width nodes n (nodeAt width nodes head .next) ≡ chainKeys width nodes count
+    unfolding chainKeys chainBroken chain
+    keys-linked =
+        go (walk width nodes count 65536 (nodeAt width nodes head .key) (nodeAt width nodes head .next)) refl
+        (none-holds (chainBroken width nodes count ∷ []) _ found .0)
+        keys-count
+      where
+        keys : Option (List ℕ) → List ℕ
+        keys o = map (λ (node : ℕ). nodeAt width nodes node .key) (Option·getD o [])
+
+        go : (o : Option (List ℕ)) →
+            walk width nodes count 65536 (nodeAt width nodes head .key) (nodeAt width nodes head .next) ≡ o →
+            isNone o ≡ false →
+            length (keys o) ≡ n →
+            linkedKeys width nodes n (nodeAt width nodes head .next) ≡ keys o
+        go none w e c = let z : _≡_ {A = ℕ} 0 1 = cc in absurd (omega arith)
+        go (some ns) w e c =
+            rw (← c, length-map) (walk-linked 65536 (nodeAt width nodes head .key) (nodeAt width nodes head .next) ns w)
+
+    pub keys-written : (keys : List ℕ) → n ≤ length keys →
+        sets keys 0 (linkedKeys width nodes n (nodeAt width nodes head .next)) ≡ chainKeys width nodes count ++ drop (length (chainKeys width nodes count)) keys
+    keys-written keys h = rw (keys-linked, sets-eq (chainKeys width nodes count) keys 0 (omega (arith, keys-count)), zero-add)
+
+    -- the room decides
+    module _ {A : Type 0} (room : ℕ) (refuse : ℕ → A) (accept : A) where
+      roomy : judged (chainRefusals width nodes count room) refuse accept ≡ judged (tooLong room ∷ []) refuse accept
+      unfolding chainRefusals tooLong
+      roomy = accepted-first (chainBroken width nodes count ∷ []) (tooLong room ∷ []) _ refuse accept found
+
+      pub keys-fit : n ≤ room → judged (chainRefusals width nodes count room) refuse accept ≡ accept
+      unfolding tooLong
+      keys-fit h = let k = keys-count in roomy ∙ rw (le-ltb room (length (chainKeys width nodes count)) (omega arith))
+
+      pub keys-short : room < n → judged (chainRefusals width nodes count room) refuse accept ≡ refuse noRoom
+      unfolding tooLong
+      keys-short h = let k = keys-count in roomy ∙ rw (lt-ltb room (length (chainKeys width nodes count)) (omega arith))

@@ -1,0 +1,68 @@
+// A fresh arena, for init.
+ghost use mathlib.Core.Path.{_≡_};
+ghost use mathlib.Core.Bool.{true};
+ghost use mathlib.Core.List.{[], flatten};
+ghost use Prim.Native.Nat.{_≤_};
+ghost use lib.ListN.{length, replicate};
+ghost use lib.Seq.{sets};
+ghost use Rattle.arena.specs.Layout.{goodCounts};
+ghost use Rattle.arena.specs.Replies.{verdictReply, replied};
+ghost use Rattle.arena.specs.Init.{freshNodes, freshWords, initRefusals};
+use crate::Verdict;
+use crate::layout;
+use crate::records::node_words;
+use crate::records::worker_words;
+use crate::refusal;
+use crate::words::write;
+use worker::Node;
+use worker::Worker;
+
+pub(crate) fn init_verdict(arena: &[u16], workers: u16, nodes: u16) -> Verdict
+    ensures { λ r. ⌜ verdictReply r ≡ replied (initRefusals (now (arena .entry)) workers nodes) [] ⌝ }
+{
+    if !layout::good_counts(workers, nodes) {
+        return Verdict::Refused(refusal::BAD_COUNTS);
+    }
+    if arena.len() < layout::total(layout::LAYOUT, workers, nodes) {
+        return Verdict::Refused(refusal::SHORT_ARENA);
+    }
+    Verdict::Accepted
+}
+
+pub(crate) fn write_fresh(arena: &mut [u16], workers: u16, nodes: u16)
+    requires { ⌜ goodCounts workers nodes ≡ true ⌝ }
+    ensures { λ _. ⌜ now (arena .exit) ≡ sets (now (arena .entry)) 0 (freshWords workers nodes) ⌝ }
+{
+    let header = layout::header_words(workers, nodes);
+    write(arena, 0, &header);
+    let idle = worker_words(Worker::idle());
+    write_copies(arena, layout::HEADER_WIDTH, &idle, workers);
+    write_nodes(arena, layout::worker_from(workers), nodes);
+}
+
+// Head, Tail and the unused nodes.
+fn write_nodes(arena: &mut [u16], from: usize, nodes: u16)
+    requires { ⌜ (from ≤ 65000) × (2 ≤ nodes) ⌝ }
+    ensures { λ _. ⌜ now (arena .exit) ≡ sets (now (arena .entry)) from (freshNodes nodes) ⌝ }
+{
+    let head = node_words(Node::head());
+    let tail = node_words(Node::tail());
+    let unused = node_words(Node::unused());
+    write(arena, from, &head);
+    write(arena, from + head.len(), &tail);
+    write_copies(arena, from + head.len() + tail.len(), &unused, nodes - 2);
+}
+
+// The same values again and again, from a place on.
+fn write_copies(words: &mut [u16], from: usize, values: &[u16], count: u16)
+    requires { ⌜ (from ≤ 65535) × (length (now values) ≤ 8) ⌝ }
+    ensures { λ _. ⌜ now (words .exit) ≡ sets (now (words .entry)) from (flatten (replicate count (now (values .entry)))) ⌝ }
+{
+    let mut at = from;
+    let mut left = count;
+    while 0 < left {
+        write(words, at, values);
+        at += values.len();
+        left -= 1;
+    }
+}
