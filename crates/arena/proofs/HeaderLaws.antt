@@ -5,9 +5,9 @@ use mathlib.Core.Logic.{_↔_}
 use mathlib.Core.List.{List, [], _∷_}
 use mathlib.Core.Bool.{Bool, true, false, _||_, and-eq-true-iff}
 use native.Mathlib.Omega.{arith}
-use native.Mathlib.Nat.{add-zero, add-suc, suc-add}
+use native.Mathlib.Nat.{zero-add, add-zero, add-suc, suc-add}
 use lib.ListN.{length, take}
-use lib.Seq.{getD-take}
+use lib.Seq.{getD-take, length-take-le, ext-getD}
 use lib.Dec.{eqb}
 use borrow.Author.Tests.{eqb-true, eq-eqb, ltb-false, not-false}
 use Rattle.arena.specs.Layout.{word, headerWidth, layoutNumber, nodesFrom, total, goodCounts, headerWords, layoutOf, workersOf, nodesOf, nodesFromOf, totalOf}
@@ -25,6 +25,13 @@ agrees-at words (v ∷ vs) at zero e h =
 agrees-at words (v ∷ vs) at (suc k) e h =
     let both = and-eq-true-iff (eqb (word words at) v) (agrees words (suc at) vs) .0 e in
     rw (add-suc, ← suc-add) (agrees-at words vs (suc at) k (both .1) (omega arith))
+
+-- and the other way round
+agrees-all : (words vs : List ℕ) (at : ℕ) → ((k : ℕ) → k < length vs → word words (at + k) ≡ word vs k) → agrees words at vs ≡ true
+agrees-all words [] at same = refl
+agrees-all words (v ∷ vs) at same =
+    rw (eq-eqb (word words at) v (rw add-zero at (same 0 (omega arith))))
+    (agrees-all words vs (suc at) (λ k h. rw (suc-add, ← add-suc) (same (suc k) (omega arith))))
 
 -- what stands in the header of an arena that is not refused
 pub record Header (arena : List ℕ) : Type 0 where
@@ -54,3 +61,42 @@ header-holds arena e =
       from = agrees-at arena (headerWords (layoutOf arena) (workersOf arena) (nodesOf arena)) 0 4 (all .1) (omega arith);
       end = agrees-at arena (headerWords (layoutOf arena) (workersOf arena) (nodesOf arena)) 0 5 (all .1) (omega arith);
     }
+
+-- document 01's words for the test: the 8 words are the header of some W and N
+abbrev pub HeaderOfSome : List ℕ → Type 0
+HeaderOfSome arena =
+    (workers : ℕ)
+    × (nodes : ℕ)
+    × (goodCounts workers nodes ≡ true)
+    × (take headerWidth arena ≡ headerWords layoutNumber workers nodes)
+
+pub header-of-some : (arena : List ℕ) → headerWidth ≤ length arena → (isHeader arena ≡ true) ↔ HeaderOfSome arena
+unfolding isHeader headerWords
+header-of-some arena h = (forth, back)
+  where
+    own : List ℕ
+    own = headerWords (layoutOf arena) (workersOf arena) (nodesOf arena)
+
+    forth : isHeader arena ≡ true → HeaderOfSome arena
+    forth e =
+        let all = and-eq-true-iff _ _ .0 e in
+        let counted = and-eq-true-iff _ _ .0 (all .0) in
+        let each : (k : ℕ) → k < 8 → word (take headerWidth arena) k ≡ word own k
+        = λ k l. getD-take headerWidth arena k 0 l ∙ rw zero-add at (agrees-at arena own 0 k (all .1) l) in
+        let long : length (take headerWidth arena) ≡ 8 = length-take-le headerWidth arena h in
+        let same : take headerWidth arena ≡ own = ext-getD 0 (take headerWidth arena) own long (λ k l. each k (omega arith)) in
+        (workersOf arena, nodesOf arena, counted .1, rw (eqb-true (layoutOf arena) layoutNumber (counted .0)) at same)
+
+    back : HeaderOfSome arena → isHeader arena ≡ true
+    back p =
+        let each : (k : ℕ) → k < 8 → word arena k ≡ word (headerWords layoutNumber (p .0) (p .1)) k
+        = λ k l. sym (getD-take headerWidth arena k 0 l) ∙ ap (λ (words : List ℕ). word words k) (p .3) in
+        let layout : layoutOf arena ≡ layoutNumber = each 0 (omega arith) in
+        let workers : workersOf arena ≡ p .0 = each 1 (omega arith) in
+        let nodes : nodesOf arena ≡ p .1 = each 2 (omega arith) in
+        let same : headerWords layoutNumber (p .0) (p .1) ≡ own = λ i. headerWords (sym layout i) (sym workers i) (sym nodes i) in
+        let good : goodCounts (workersOf arena) (nodesOf arena) ≡ true = (λ i. goodCounts (workers i) (nodes i)) ∙ p .2 in
+        and-eq-true-iff _ _ .1 (
+          and-eq-true-iff _ _ .1 (eq-eqb _ _ layout, good),
+          agrees-all arena own 0 (λ k l. rw zero-add (each k l ∙ ap (λ (words : List ℕ). word words k) same)),
+        )

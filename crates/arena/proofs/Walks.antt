@@ -5,15 +5,15 @@ use mathlib.Core.List.{List, [], _∷_, _++_, map}
 use mathlib.Core.Bool.{Bool, true, false, cond, _&&_}
 use mathlib.Core.Option.{Option, none, some, Option·map, Option·getD}
 use native.Mathlib.Omega.{arith}
-use native.Mathlib.Nat.{zero-add, add-zero}
+use native.Mathlib.Nat.{zero-add, add-zero, suc-add}
 use native.Mathlib.Numerals.{add-one}
 use lib.ListN.{length, drop, set, length-map}
 use lib.Seq.{sets, sets-eq}
 use lib.Dec.{ltb, eqb}
-use borrow.Author.Tests.{eq-eqb, ne-eqb, lt-ltb, le-ltb}
+use borrow.Author.Tests.{eq-eqb, ne-eqb, lt-ltb, le-ltb, ltb-true}
 use Rattle.worker.specs.Node.{head, tail}
 use Rattle.worker.specs.declared.Node.{Node}
-use Rattle.arena.specs.Records.{nodeAt}
+use Rattle.arena.specs.Records.{nodeAt, keyAt, nextAt}
 use Rattle.arena.specs.Replies.{Refusal, refused, accepted, brokenChain, noRoom, judged, replied}
 use Rattle.arena.proofs.Judged.{none-holds, given-values, refused-first, accepted-first}
 use Rattle.arena.specs.Snapshot.{walk, linkedKeys, chain, chainKeys, chainBroken, chainRefusals, isNone}
@@ -43,22 +43,22 @@ module _ (width : ℕ) (nodes : List ℕ) (count : ℕ) where
   unfolding walk
   walk-out steps before last node h t k = rw (less h, ne-eqb _ _ t, le-ltb _ _ k)
 
-  pub walk-fall : (steps before last node : ℕ) → before < steps → (node ≡ tail → ⊥) → node < count → nodeAt width nodes node .key ≤ last →
+  pub walk-fall : (steps before last node : ℕ) → before < steps → (node ≡ tail → ⊥) → node < count → keyAt width nodes node ≤ last →
       ahead before (walk width nodes count (steps - before) last node) ≡ none
   unfolding walk
   walk-fall steps before last node h t k l = rw (less h, ne-eqb _ _ t, lt-ltb _ _ k, le-ltb _ _ l)
 
-  pub walk-on : (steps before last node : ℕ) → before < steps → (node ≡ tail → ⊥) → node < count → last < nodeAt width nodes node .key →
+  pub walk-on : (steps before last node : ℕ) → before < steps → (node ≡ tail → ⊥) → node < count → last < keyAt width nodes node →
       ahead before (walk width nodes count (steps - before) last node)
-      ≡ ahead (before + 1) (walk width nodes count (steps - (before + 1)) (nodeAt width nodes node .key) (nodeAt width nodes node .next))
+      ≡ ahead (before + 1) (walk width nodes count (steps - (before + 1)) (keyAt width nodes node) (nextAt width nodes node))
   unfolding walk
   walk-on steps before last node h t k l = rw (less h, ne-eqb _ _ t, lt-ltb _ _ k, lt-ltb _ _ l)
-      (ahead-on before node (walk width nodes count (steps - (before + 1)) (nodeAt width nodes node .key) (nodeAt width nodes node .next)))
+      (ahead-on before node (walk width nodes count (steps - (before + 1)) (keyAt width nodes node) (nextAt width nodes node)))
 
   -- the keys along the next links, written one by one
   pub keys-on : (keys : List ℕ) (i steps node : ℕ) → i < steps →
       sets keys i (linkedKeys width nodes (steps - i) node)
-      ≡ sets (set keys i (nodeAt width nodes node .key)) (i + 1) (linkedKeys width nodes (steps - (i + 1)) (nodeAt width nodes node .next))
+      ≡ sets (set keys i (keyAt width nodes node)) (i + 1) (linkedKeys width nodes (steps - (i + 1)) (nextAt width nodes node))
   unfolding linkedKeys
   keys-on keys i steps node h = rw (less h, add-one)
 
@@ -68,7 +68,7 @@ module _ (width : ℕ) (nodes : List ℕ) (count : ℕ) where
       refused brokenChain ≡ replied (chainBroken width nodes count ∷ []) values
   unfolding chainBroken chain
   broken first values f e =
-      go (walk width nodes count 65536 (nodeAt width nodes head .key) (nodeAt width nodes head .next)) (rw f at e)
+      go (walk width nodes count 65536 (keyAt width nodes head) (nextAt width nodes head)) (rw f at e)
     where
       go : (o : Option (List ℕ)) → ahead 0 o ≡ none → refused brokenChain ≡ cond (isNone o) (refused brokenChain) (accepted values)
       go none e = refl
@@ -79,38 +79,67 @@ module _ (width : ℕ) (nodes : List ℕ) (count : ℕ) where
       accepted (n ∷ []) ≡ replied (chainBroken width nodes count ∷ []) (length (chainKeys width nodes count) ∷ [])
   unfolding chainBroken chainKeys chain
   whole first n f e =
-      go (walk width nodes count 65536 (nodeAt width nodes head .key) (nodeAt width nodes head .next)) (rw f at e)
+      go (walk width nodes count 65536 (keyAt width nodes head) (nextAt width nodes head)) (rw f at e)
     where
       go : (o : Option (List ℕ)) → ahead 0 o ≡ some n →
           accepted (n ∷ [])
-          ≡ cond (isNone o) (refused brokenChain) (accepted (length (map (λ (node : ℕ). nodeAt width nodes node .key) (Option·getD o [])) ∷ []))
+          ≡ cond (isNone o) (refused brokenChain) (accepted (length (map (keyAt width nodes) (Option·getD o [])) ∷ []))
       go none e = let z : _≡_ {A = ℕ} 0 1 = cc in absurd (omega arith)
       go (some ns) e = let z : 0 + length ns ≡ n = cc in rw (← z, zero-add, length-map)
 
   -- a walk goes along the next links
   pub walk-linked : (steps last node : ℕ) (ns : List ℕ) → walk width nodes count steps last node ≡ some ns →
-      linkedKeys width nodes (length ns) node ≡ map (λ (n : ℕ). nodeAt width nodes n .key) ns
+      linkedKeys width nodes (length ns) node ≡ map (keyAt width nodes) ns
   unfolding walk linkedKeys
   walk-linked zero last node ns e = let z : _≡_ {A = ℕ} 0 1 = cc in absurd (omega arith)
   walk-linked (suc steps) last node ns e =
-      go (eqb node tail) (ltb node count && ltb last (nodeAt width nodes node .key))
-      (walk width nodes count steps (nodeAt width nodes node .key) (nodeAt width nodes node .next))
-      (λ rest. walk-linked steps (nodeAt width nodes node .key) (nodeAt width nodes node .next) rest)
+      go (eqb node tail) (ltb node count && ltb last (keyAt width nodes node))
+      (walk width nodes count steps (keyAt width nodes node) (nextAt width nodes node))
+      (λ rest. walk-linked steps (keyAt width nodes node) (nextAt width nodes node) rest)
       e
     where
       keys : List ℕ → List ℕ
-      keys = map (λ (n : ℕ). nodeAt width nodes n .key)
+      keys = map (keyAt width nodes)
 
       go : (t u : Bool) (onward : Option (List ℕ)) →
-          ((rest : List ℕ) → onward ≡ some rest → linkedKeys width nodes (length rest) (nodeAt width nodes node .next) ≡ keys rest) →
+          ((rest : List ℕ) → onward ≡ some rest → linkedKeys width nodes (length rest) (nextAt width nodes node) ≡ keys rest) →
           cond t (some []) (cond u (Option·map (λ rest. node ∷ rest) onward) none) ≡ some ns →
           linkedKeys width nodes (length ns) node ≡ keys ns
       go true u onward more e = let z : [] ≡ ns = cc in rw (← z)
       go false true none more e = let z : _≡_ {A = ℕ} 0 1 = cc in absurd (omega arith)
       go false true (some rest) more e =
           let z : node ∷ rest ≡ ns = cc in
-          rw (← z) (ap (λ (l : List ℕ). nodeAt width nodes node .key ∷ l) (more rest refl))
+          rw (← z) (ap (λ (l : List ℕ). keyAt width nodes node ∷ l) (more rest refl))
       go false false onward more e = let z : _≡_ {A = ℕ} 0 1 = cc in absurd (omega arith)
+
+  -- as keys are words, more steps than 65,536 find the same
+  module _ (words : (node : ℕ) → keyAt width nodes node < 65536) where
+    walk-more : (steps last node : ℕ) → last < 65536 → 65536 ≤ last + steps →
+        walk width nodes count (suc steps) last node ≡ walk width nodes count steps last node
+    unfolding walk
+    walk-more zero last node l h = absurd (omega arith)
+    walk-more (suc steps) last node l h =
+        go (eqb node tail) (ltb node count) (ltb last (keyAt width nodes node))
+        (λ rises. walk-more steps (keyAt width nodes node) (nextAt width nodes node) (words node) (omega (arith, ltb-true last (keyAt width nodes node) rises)))
+      where
+        onward : ℕ → Option (List ℕ)
+        onward n = walk width nodes count n (keyAt width nodes node) (nextAt width nodes node)
+
+        judge : Bool → Bool → Option (List ℕ) → Option (List ℕ)
+        judge t u o = cond t (some []) (cond u (Option·map (λ rest. node ∷ rest) o) none)
+
+        go : (t u v : Bool) → (v ≡ true → onward (suc steps) ≡ onward steps) → judge t (u && v) (onward (suc steps)) ≡ judge t (u && v) (onward steps)
+        go true u v e = refl
+        go false true true e = ap (Option·map (λ rest. node ∷ rest)) (e refl)
+        go false true false e = refl
+        go false false v e = refl
+
+    pub chain-steps : (more : ℕ) →
+        walk width nodes count (more + 65536) (keyAt width nodes head) (nextAt width nodes head) ≡ chain width nodes count
+    unfolding chain
+    chain-steps zero = refl
+    chain-steps (suc more) =
+        rw suc-add (walk-more (more + 65536) (keyAt width nodes head) (nextAt width nodes head) (words head) (omega arith) ∙ chain-steps more)
 
   tooLong : ℕ → Refusal
   tooLong room = (ltb room (length (chainKeys width nodes count)), noRoom)
@@ -130,27 +159,27 @@ module _ (width : ℕ) (nodes : List ℕ) (count : ℕ) where
         let same : n ∷ [] ≡ length (chainKeys width nodes count) ∷ [] = given-values (chainBroken width nodes count ∷ []) _ found in
         cc
 
-    pub keys-linked : linkedKeys width nodes n (nodeAt width nodes head .next) ≡ chainKeys width nodes count
+    pub keys-linked : linkedKeys width nodes n (nextAt width nodes head) ≡ chainKeys width nodes count
     unfolding chainKeys chainBroken chain
     keys-linked =
-        go (walk width nodes count 65536 (nodeAt width nodes head .key) (nodeAt width nodes head .next)) refl
+        go (walk width nodes count 65536 (keyAt width nodes head) (nextAt width nodes head)) refl
         (none-holds (chainBroken width nodes count ∷ []) _ found .0)
         keys-count
       where
         keys : Option (List ℕ) → List ℕ
-        keys o = map (λ (node : ℕ). nodeAt width nodes node .key) (Option·getD o [])
+        keys o = map (keyAt width nodes) (Option·getD o [])
 
         go : (o : Option (List ℕ)) →
-            walk width nodes count 65536 (nodeAt width nodes head .key) (nodeAt width nodes head .next) ≡ o →
+            walk width nodes count 65536 (keyAt width nodes head) (nextAt width nodes head) ≡ o →
             isNone o ≡ false →
             length (keys o) ≡ n →
-            linkedKeys width nodes n (nodeAt width nodes head .next) ≡ keys o
+            linkedKeys width nodes n (nextAt width nodes head) ≡ keys o
         go none w e c = let z : _≡_ {A = ℕ} 0 1 = cc in absurd (omega arith)
         go (some ns) w e c =
-            rw (← c, length-map) (walk-linked 65536 (nodeAt width nodes head .key) (nodeAt width nodes head .next) ns w)
+            rw (← c, length-map) (walk-linked 65536 (keyAt width nodes head) (nextAt width nodes head) ns w)
 
     pub keys-written : (keys : List ℕ) → n ≤ length keys →
-        sets keys 0 (linkedKeys width nodes n (nodeAt width nodes head .next)) ≡ chainKeys width nodes count ++ drop (length (chainKeys width nodes count)) keys
+        sets keys 0 (linkedKeys width nodes n (nextAt width nodes head)) ≡ chainKeys width nodes count ++ drop (length (chainKeys width nodes count)) keys
     keys-written keys h = rw (keys-linked, sets-eq (chainKeys width nodes count) keys 0 (omega (arith, keys-count)), zero-add)
 
     -- the room decides

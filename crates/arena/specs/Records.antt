@@ -45,7 +45,7 @@ markField = 2
 abbrev pub ownerField : ℕ
 ownerField = 3
 
--- a node, read from node records of some width
+-- a node, read from the part of an arena that holds the node records, each of some width
 unfoldable pub nodeAt : ℕ → List ℕ → ℕ → Node
 nodeAt width nodes node =
     record {
@@ -54,3 +54,9 @@ nodeAt width nodes node =
       mark = word nodes (slot width node markField);
       owner = word nodes (slot width node ownerField);
     }
+
+abbrev pub keyAt : ℕ → List ℕ → ℕ → ℕ
+keyAt width nodes node = nodeAt width nodes node .key
+
+abbrev pub nextAt : ℕ → List ℕ → ℕ → ℕ
+nextAt width nodes node = nodeAt width nodes node .next

@@ -8,34 +8,44 @@ use Rattle.arena.specs.declared.Listing.{Listing}
 use Rattle.arena.specs.declared.Listing.the-variants as listing
 
 -- the refusals, with document 01's words
-abbrev pub shortArena : ℕ  -- "short board"
+-- "short board"
+abbrev pub shortArena : ℕ
 shortArena = 1
 
-abbrev pub oddHeader : ℕ  -- "odd header"
+-- "odd header"
+abbrev pub oddHeader : ℕ
 oddHeader = 2
 
-abbrev pub noSuchWorker : ℕ  -- "no such worker"
+-- "no such worker"
+abbrev pub noSuchWorker : ℕ
 noSuchWorker = 3
 
-abbrev pub busy : ℕ  -- "busy"
+-- "busy"
+abbrev pub busy : ℕ
 busy = 4
 
-abbrev pub badCall : ℕ  -- "bad call"
+-- "bad call"
+abbrev pub badCall : ℕ
 badCall = 5
 
-abbrev pub brokenRecord : ℕ  -- "broken record"
+-- "broken record"
+abbrev pub brokenRecord : ℕ
 brokenRecord = 6
 
-abbrev pub brokenChain : ℕ  -- "broken chain"
+-- "broken chain"
+abbrev pub brokenChain : ℕ
 brokenChain = 7
 
-abbrev pub noRoom : ℕ  -- "no room"
+-- "no room"
+abbrev pub noRoom : ℕ
 noRoom = 8
 
-abbrev pub badSchedule : ℕ  -- "bad schedule"
+-- "bad schedule"
+abbrev pub badSchedule : ℕ
 badSchedule = 9
 
-abbrev pub badCounts : ℕ  -- "bad counts"
+-- "bad counts"
+abbrev pub badCounts : ℕ
 badCounts = 10
 
 -- a reply: the number of a refusal alone, or the values asked for

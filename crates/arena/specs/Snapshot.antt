@@ -7,45 +7,46 @@ use lib.ListN.{length, drop}
 use lib.Dec.{ltb, eqb}
 use Rattle.worker.specs.Node.{head, tail}
 use Rattle.arena.specs.Layout.{nodesOf, layoutOf, nodeWidth, nodePart}
-use Rattle.arena.specs.Records.{nodeAt}
+use Rattle.arena.specs.Records.{keyAt, nextAt}
 use Rattle.arena.specs.Replies.{Refusal, Reply, brokenChain, noRoom, replied, written}
 use Rattle.arena.specs.Header.{headerRefusals}
-
--- The nodes from `node` on, up to Tail, which is not looked at; none where a link is N or more, or a key is not above the last.
--- Keys rise and are below 65,536, so 65,536 steps are more than any walk has.
-unfoldable pub walk : ℕ → List ℕ → ℕ → ℕ → ℕ → ℕ → Option (List ℕ)
-walk width nodes count zero last node = none
-walk width nodes count (suc steps) last node =
-    let onward = walk width nodes count steps (nodeAt width nodes node .key) (nodeAt width nodes node .next) in
-    cond (eqb node tail)
-    (some [])
-    (cond (ltb node count && ltb last (nodeAt width nodes node .key)) (Option·map (λ rest. node ∷ rest) onward) none)
-
--- the keys of so many nodes, from `node` on by next links alone
-unfoldable pub linkedKeys : ℕ → List ℕ → ℕ → ℕ → List ℕ
-linkedKeys width nodes zero node = []
-linkedKeys width nodes (suc steps) node =
-    nodeAt width nodes node .key ∷ linkedKeys width nodes steps (nodeAt width nodes node .next)
-
--- the nodes between Head and Tail; the rising begins with Head's key
-unfoldable pub chain : ℕ → List ℕ → ℕ → Option (List ℕ)
-chain width nodes count = walk width nodes count 65536 (nodeAt width nodes head .key) (nodeAt width nodes head .next)
-
--- their keys, in chain order
-unfoldable pub chainKeys : ℕ → List ℕ → ℕ → List ℕ
-chainKeys width nodes count = map (λ node. nodeAt width nodes node .key) (Option·getD (chain width nodes count) [])
 
 abbrev pub isNone : {A : Type 0} → Option A → Bool
 isNone none = true
 isNone (some a) = false
 
--- a broken chain: 7; keys that do not fit the room: 8
-unfoldable pub chainBroken : ℕ → List ℕ → ℕ → Refusal
-chainBroken width nodes count = (isNone (chain width nodes count), brokenChain)
+module _ (width : ℕ) (nodes : List ℕ) where
+  -- the keys of so many nodes, from `node` on by next links alone
+  unfoldable pub linkedKeys : ℕ → ℕ → List ℕ
+  linkedKeys zero node = []
+  linkedKeys (suc steps) node = keyAt width nodes node ∷ linkedKeys steps (nextAt width nodes node)
 
-unfoldable pub chainRefusals : ℕ → List ℕ → ℕ → ℕ → List Refusal
-chainRefusals width nodes count room =
-    chainBroken width nodes count ∷ (ltb room (length (chainKeys width nodes count)), noRoom) ∷ []
+  module _ (count : ℕ) where
+    -- The nodes from `node` on, up to Tail, which is not looked at; or none, where a link is N or more or a key is not above the last.
+    -- Keys rise and are words, so 65,536 steps are enough for every walk (`Walks.chain-steps`).
+    unfoldable pub walk : ℕ → ℕ → ℕ → Option (List ℕ)
+    walk zero last node = none
+    walk (suc steps) last node =
+        let onward = walk steps (keyAt width nodes node) (nextAt width nodes node) in
+        cond (eqb node tail)
+        (some [])
+        (cond (ltb node count && ltb last (keyAt width nodes node)) (Option·map (λ rest. node ∷ rest) onward) none)
+
+    -- the nodes of the chain between Head and Tail; Head's key is where the rising begins
+    unfoldable pub chain : Option (List ℕ)
+    chain = walk 65536 (keyAt width nodes head) (nextAt width nodes head)
+
+    -- their keys, in chain order
+    unfoldable pub chainKeys : List ℕ
+    chainKeys = map (keyAt width nodes) (Option·getD chain [])
+
+    -- a broken chain: 7
+    unfoldable pub chainBroken : Refusal
+    chainBroken = (isNone chain, brokenChain)
+
+    -- the whole chain is judged before the room: 7, 8
+    unfoldable pub chainRefusals : ℕ → List Refusal
+    chainRefusals room = chainBroken ∷ (ltb room (length chainKeys), noRoom) ∷ []
 
 -- the keys of an arena's chain
 unfoldable pub keysOf : List ℕ → List ℕ

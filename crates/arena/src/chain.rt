@@ -4,7 +4,7 @@ ghost use mathlib.Core.List.{[], _∷_, _++_};
 ghost use lib.ListN.{length, drop};
 ghost use lib.Seq.{sets};
 ghost use Rattle.worker.specs.Node.{head};
-ghost use Rattle.arena.specs.Records.{nodeAt};
+ghost use Rattle.arena.specs.Records.{nextAt};
 ghost use Rattle.arena.specs.Replies.{listingReply, replied, written};
 ghost use Rattle.arena.specs.Snapshot.{chainBroken, chainKeys, chainRefusals, linkedKeys};
 use crate::Listing;
@@ -38,7 +38,7 @@ fn survey(nodes: &[u16], width: u16, count: u16) -> Listing
 
 // The keys of so many nodes after Head, by their next links.
 fn copy_keys(nodes: &[u16], width: u16, keys: &mut [u16], count: u16)
-    ensures { λ _. ⌜ now (keys .exit) ≡ sets (now (keys .entry)) 0 (linkedKeys width (now (nodes .entry)) count (nodeAt width (now (nodes .entry)) head .next)) ⌝ }
+    ensures { λ _. ⌜ now (keys .exit) ≡ sets (now (keys .entry)) 0 (linkedKeys width (now (nodes .entry)) count (nextAt width (now (nodes .entry)) head)) ⌝ }
 {
     let first = read_node(nodes, width, Node::HEAD);
     let mut at = first.next;

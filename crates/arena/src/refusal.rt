@@ -1,20 +1,30 @@
 // Document 01's refusals: the number, and its word.
-pub const SHORT_ARENA: u16 = 1; // short board
+// short board
+pub const SHORT_ARENA: u16 = 1;
 
-pub const ODD_HEADER: u16 = 2; // odd header
+// odd header
+pub const ODD_HEADER: u16 = 2;
 
-pub const NO_SUCH_WORKER: u16 = 3; // no such worker
+// no such worker
+pub const NO_SUCH_WORKER: u16 = 3;
 
-pub const BUSY: u16 = 4; // busy
+// busy
+pub const BUSY: u16 = 4;
 
-pub const BAD_CALL: u16 = 5; // bad call
+// bad call
+pub const BAD_CALL: u16 = 5;
 
-pub const BROKEN_RECORD: u16 = 6; // broken record
+// broken record
+pub const BROKEN_RECORD: u16 = 6;
 
-pub const BROKEN_CHAIN: u16 = 7; // broken chain
+// broken chain
+pub const BROKEN_CHAIN: u16 = 7;
 
-pub const NO_ROOM: u16 = 8; // no room
+// no room
+pub const NO_ROOM: u16 = 8;
 
-pub const BAD_SCHEDULE: u16 = 9; // bad schedule
+// bad schedule
+pub const BAD_SCHEDULE: u16 = 9;
 
-pub const BAD_COUNTS: u16 = 10; // bad counts
+// bad counts
+pub const BAD_COUNTS: u16 = 10;

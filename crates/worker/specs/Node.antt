@@ -9,8 +9,8 @@ head = 0
 abbrev pub tail : ℕ
 tail = 1
 
-abbrev pub none : ℕ
-none = 65535
+abbrev pub noNode : ℕ
+noNode = 65535
 
 -- Head's key is 0 and its next 1, Tail's key 65,535 and its next 1; marks and owners are 0
 abbrev pub headNode : Node

@@ -2,7 +2,7 @@
 use Prim.Native.Nat.{ℕ}
 use mathlib.Core.Bool.{Bool, cond, _&&_}
 use lib.Dec.{leb, eqb}
-use Rattle.worker.specs.Node.{none}
+use Rattle.worker.specs.Node.{noNode}
 use Rattle.worker.specs.declared.Worker.{Worker}
 
 -- operations: 1 add, 2 remove, 3 contains
@@ -37,9 +37,9 @@ idleWorker =
       stage = idleStage;
       operation = 0;
       key = 0;
-      pred = none;
-      curr = none;
-      spare = none;
+      pred = noNode;
+      curr = noNode;
+      spare = noNode;
       answer = 0;
       reserved = 0;
     }
@@ -55,9 +55,9 @@ startedWorker operation key =
       stage = firstStage operation;
       operation = operation;
       key = key;
-      pred = none;
-      curr = none;
-      spare = none;
+      pred = noNode;
+      curr = noNode;
+      spare = noNode;
       answer = 0;
       reserved = 0;
     }

@@ -1,12 +1,13 @@
 -- The invariant: to write the keys that are left makes the whole.
-use Prim.Native.Nat.{ℕ, _≤_, _-_}
-use mathlib.Core.Path.{_≡_, refl, sym, _∙_}
+use Prim.Native.Nat.{_≤_, _-_}
+use mathlib.Core.Path.{_≡_, refl, sym, ap, _∙_}
 use native.Mathlib.Nat.{sub-zero}
 use native.Mathlib.Omega.{arith}
 use denote.Ref.{now}
-use lib.ListN.{length, length-set}
+use lib.ListN.{length}
 use lib.Seq.{sets}
 use borrow.Author.Needs.{needs}
+use Rattle.worker.specs.declared.Node.{Node}
 use Rattle.arena.specs.Snapshot.{linkedKeys}
 use Rattle.arena.proofs.Walks.{keys-on}
 use Rattle.arena.proofs.chain.copy_keys.Statement.{statement}
@@ -33,9 +34,11 @@ loop-again c =
 returns : tie.Need-returns Inv-loop μ-loop
 unfolding linkedKeys
 returns c =
-    let loop = c .before .loop in
-    let none : c .before .before .before .before .before .args .count - loop .i ≡ 0 = omega arith in
-    rw (← c .before .before .read-node .ensures) (rw none at (loop .inv .2))
+    let args = c .before .before .before .before .before .args in
+    let none : args .count - c .before .loop .i ≡ 0 = omega arith in
+    rw none at (c .before .loop .inv .2)
+    ∙ ap (λ (first : Node). sets (now (args .keys)) 0 (linkedKeys (args .width) (now (args .nodes)) (args .count) (first .next)))
+    (c .before .before .read-node .ensures)
 
 pub copy-keys-spec : {M : Type 1} → statement M
 copy-keys-spec =
