@@ -1,0 +1,46 @@
+// Runs what the starred cases leave out: the limits of the counts, damaged headers, records and chains. What it prints is held to
+// the stored output, which was worked out by hand from document 01.
+mod print;
+mod snapshots;
+mod starts;
+
+use print::show;
+use print::show_words;
+
+fn main() {
+    inits();
+    starts::headers();
+    starts::records();
+    snapshots::chains();
+    snapshots::breaks();
+    snapshots::longer();
+}
+
+fn inits() {
+    let mut large = [7u16; 4168];
+    init(b"init 8 1024, 4168 words", &mut large, 4168, 8, 1024);
+    init(b"init 8 1024, 4167 words", &mut large, 4167, 8, 1024);
+    init(b"init 8 1025", &mut large, 4168, 8, 1025);
+    init(b"init 0 3", &mut large, 4168, 0, 3);
+    let mut few = [7u16; 3];
+    init(b"init 9 2, 3 words", &mut few, 3, 9, 2);
+    init(b"init 1 3, 3 words", &mut few, 3, 1, 3);
+    show_words(b"they stay:", &few);
+    let mut more = [7u16; 30];
+    init(b"init 1 3, 30 words", &mut more, 30, 1, 3);
+    show_words(b"they are:", &more);
+}
+
+// In the first of the words.
+fn init(text: &[u8], words: &mut [u16], room: usize, workers: u16, nodes: u16) {
+    if room <= words.len() {
+        show(text, arena::init(&mut words[0..room], workers, nodes));
+    }
+}
+
+// A fresh arena of one worker and three nodes, in as many words as it needs.
+fn fresh() -> [u16; 28] {
+    let mut words = [0u16; 28];
+    arena::init(&mut words, 1, 3);
+    words
+}
