@@ -2,7 +2,7 @@
 use Prim.Native.Nat.{ℕ, zero, suc, _+_, _-_, _≤_, _<_}
 use mathlib.Core.Path.{_≡_, refl, sym, ap, _∙_}
 use mathlib.Core.List.{List, [], _∷_, _++_, map}
-use mathlib.Core.Bool.{Bool, true, false, cond, _&&_}
+use mathlib.Core.Bool.{Bool, true, false, cond, not, _&&_, and-eq-true-iff}
 use mathlib.Core.Option.{Option, none, some, Option·map, Option·getD}
 use native.Mathlib.Omega.{arith}
 use native.Mathlib.Nat.{zero-add, add-zero, suc-add}
@@ -10,7 +10,7 @@ use native.Mathlib.Numerals.{add-one}
 use lib.ListN.{length, drop, set, length-map}
 use lib.Seq.{sets, sets-eq}
 use lib.Dec.{ltb, eqb}
-use borrow.Author.Tests.{eq-eqb, ne-eqb, lt-ltb, le-ltb, ltb-true}
+use borrow.Author.Tests.{eq-eqb, ne-eqb, lt-ltb, le-ltb, ltb-true, not-true, not-false}
 use Rattle.worker.specs.Node.{head, tail}
 use Rattle.worker.specs.declared.Node.{Node}
 use Rattle.arena.specs.Records.{nodeAt, keyAt, nextAt}
@@ -32,28 +32,32 @@ less : {steps k : ℕ} → k < steps → steps - k ≡ suc (steps - (k + 1))
 less h = omega arith
 
 module _ (width : ℕ) (nodes : List ℕ) (count : ℕ) where
-  -- a walk at Tail, at a link of N or more, at a key that does not rise, and at a node that it passes
+  -- a walk at Tail, at a break, and at a node that it passes
   pub walk-end : (steps before last node : ℕ) → before < steps → node ≡ tail →
       ahead before (walk width nodes count (steps - before) last node) ≡ some before
   unfolding walk
   walk-end steps before last node h t = rw (less h, eq-eqb _ _ t) (ap some (add-zero before))
 
-  pub walk-out : (steps before last node : ℕ) → before < steps → (node ≡ tail → ⊥) → count ≤ node →
+  pub walk-break : (steps before last node : ℕ) (n : Node) → n ≡ nodeAt width nodes node →
+      before < steps → (node ≡ tail → ⊥) → not (ltb node count && ltb last (n .key)) ≡ true →
       ahead before (walk width nodes count (steps - before) last node) ≡ none
   unfolding walk
-  walk-out steps before last node h t k = rw (less h, ne-eqb _ _ t, le-ltb _ _ k)
+  walk-break steps before last node n e h t k =
+      let stops : (ltb node count && ltb last (keyAt width nodes node)) ≡ false = not-true _ (rw e at k) in
+      rw (less h, ne-eqb _ _ t, stops)
 
-  pub walk-fall : (steps before last node : ℕ) → before < steps → (node ≡ tail → ⊥) → node < count → keyAt width nodes node ≤ last →
-      ahead before (walk width nodes count (steps - before) last node) ≡ none
-  unfolding walk
-  walk-fall steps before last node h t k l = rw (less h, ne-eqb _ _ t, lt-ltb _ _ k, le-ltb _ _ l)
-
-  pub walk-on : (steps before last node : ℕ) → before < steps → (node ≡ tail → ⊥) → node < count → last < keyAt width nodes node →
+  pub walk-on : (steps before last node : ℕ) (n : Node) → n ≡ nodeAt width nodes node →
+      before < steps → (node ≡ tail → ⊥) → not (ltb node count && ltb last (n .key)) ≡ false →
       ahead before (walk width nodes count (steps - before) last node)
-      ≡ ahead (before + 1) (walk width nodes count (steps - (before + 1)) (keyAt width nodes node) (nextAt width nodes node))
+      ≡ ahead (before + 1) (walk width nodes count (steps - (before + 1)) (n .key) (n .next))
   unfolding walk
-  walk-on steps before last node h t k l = rw (less h, ne-eqb _ _ t, lt-ltb _ _ k, lt-ltb _ _ l)
+  walk-on steps before last node n e h t k =
+      let passes : (ltb node count && ltb last (keyAt width nodes node)) ≡ true = not-false _ (rw e at k) in
+      rw (e, less h, ne-eqb _ _ t, passes)
       (ahead-on before node (walk width nodes count (steps - (before + 1)) (keyAt width nodes node) (nextAt width nodes node)))
+
+  pub rises : (node last key : ℕ) → not (ltb node count && ltb last key) ≡ false → last < key
+  rises node last key k = ltb-true last key (and-eq-true-iff (ltb node count) (ltb last key) .0 (not-false _ k) .1)
 
   -- the keys along the next links, written one by one
   pub keys-on : (keys : List ℕ) (i steps node : ℕ) → i < steps →

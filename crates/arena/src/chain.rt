@@ -22,11 +22,8 @@ fn survey(nodes: &[u16], width: u16, count: u16) -> Listing
     let mut at = head.next;
     let mut passed: u16 = 0;
     while at != Node::TAIL {
-        if count <= at {
-            return Listing::Refused(refusal::BROKEN_CHAIN);
-        }
         let node = read_node(nodes, width, at);
-        if node.key <= last {
+        if !((at < count) & (last < node.key)) {
             return Listing::Refused(refusal::BROKEN_CHAIN);
         }
         passed += 1;

@@ -12,11 +12,8 @@ use crate::words::word;
 pub fn header_verdict(arena: &[u16]) -> Verdict
     ensures { λ r. ⌜ verdictReply r ≡ replied (headerRefusals (now (arena .entry))) [] ⌝ }
 {
-    if arena.len() < layout::HEADER_WIDTH {
-        return Verdict::Refused(refusal::SHORT_ARENA);
-    }
     let total = word(arena, layout::TOTAL_AT) as usize;
-    if arena.len() < total {
+    if (arena.len() < layout::HEADER_WIDTH) | (arena.len() < total) {
         return Verdict::Refused(refusal::SHORT_ARENA);
     }
     if is_header(arena) {

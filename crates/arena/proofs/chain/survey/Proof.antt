@@ -6,7 +6,7 @@ use native.Mathlib.Omega.{arith}
 use denote.Ref.{now}
 use borrow.Author.Needs.{needs}
 use Rattle.arena.specs.Snapshot.{walk}
-use Rattle.arena.proofs.Walks.{ahead, walk-end, walk-out, walk-fall, walk-on, broken, whole}
+use Rattle.arena.proofs.Walks.{ahead, walk-end, walk-break, walk-on, rises, broken, whole}
 use Rattle.arena.proofs.chain.survey.Statement.{statement}
 use Rattle.arena.proofs.chain.survey.Tie as tie
 
@@ -22,27 +22,24 @@ abbrev μ-loop : tie.MeasureT-loop
 loop-holds : tie.Need-loop-holds Inv-loop μ-loop
 loop-holds c = (omega arith, omega arith, refl)
 
-out-of-range : tie.Need-returns Inv-loop μ-loop
-out-of-range c =
-    let args = c .before .before .before .before .before .args in
-    let loop = c .before .before .loop in
-    broken (args .width) (now (args .nodes)) (args .count) (c .before .before .before .read-node .result) _ (c .before .before .before .read-node .ensures)
-    (loop .inv .2 ∙ walk-out (args .width) (now (args .nodes)) (args .count) 65536 (loop .passed) (loop .last) (loop .at) (omega arith) (c .before .loop-test .taken) (c .if1 .taken))
+broken-off : tie.Need-returns Inv-loop μ-loop
+broken-off c =
+    let args = c .before .before .before .before .before .before .before .args in
+    let loop = c .before .before .before .before .loop in
+    broken (args .width) (now (args .nodes)) (args .count) (c .before .before .before .before .before .read-node .result) _ (c .before .before .before .before .before .read-node .ensures)
+    (loop .inv .2 ∙ walk-break (args .width) (now (args .nodes)) (args .count) 65536 (loop .passed) (loop .last) (loop .at) _ (c .before .before .read-node2 .ensures) (omega arith) (c .before .before .before .loop-test .taken) (c .if1 .taken))
 
-not-rising : tie.Need-returns-2 Inv-loop μ-loop
-not-rising c =
-    let args = c .before .before .before .before .before .before .before .before .args in
-    let loop = c .before .before .before .before .before .loop in
-    broken (args .width) (now (args .nodes)) (args .count) (c .before .before .before .before .before .before .read-node .result) _ (c .before .before .before .before .before .before .read-node .ensures)
-    (loop .inv .2 ∙ walk-fall (args .width) (now (args .nodes)) (args .count) 65536 (loop .passed) (loop .last) (loop .at) (omega arith) (c .before .before .before .before .loop-test .taken) (c .before .before .before .if1 .left) (rw (c .before .before .read-node2 .ensures) at (c .if2 .taken)))
+rose : (c : tie.Else1 Inv-loop μ-loop) → c .before .before .before .before .loop .last < c .before .before .read-node2 .result .key
+rose c = rises (c .before .before .before .before .before .before .before .args .width) (now (c .before .before .before .before .before .before .before .args .nodes)) (c .before .before .before .before .before .before .before .args .count) (c .before .before .before .before .loop .at) _ _ (c .if1 .left)
 
 loop-again : tie.Need-loop-again Inv-loop μ-loop
 loop-again c =
-    let args = c .before .before .before .before .before .before .before .before .args in
-    let loop = c .before .before .before .before .before .loop in
-    (omega arith, omega arith, rw (c .before .before .read-node2 .ensures) (loop .inv .2 ∙ walk-on (args .width) (now (args .nodes)) (args .count) 65536 (loop .passed) (loop .last) (loop .at) (omega arith) (c .before .before .before .before .loop-test .taken) (c .before .before .before .if1 .left) (rw (c .before .before .read-node2 .ensures) at (c .if2 .left))))
+    let args = c .before .before .before .before .before .before .before .args in
+    let loop = c .before .before .before .before .loop in
+    let risen = rose c in
+    (omega arith, omega arith, loop .inv .2 ∙ walk-on (args .width) (now (args .nodes)) (args .count) 65536 (loop .passed) (loop .last) (loop .at) _ (c .before .before .read-node2 .ensures) (omega arith) (c .before .before .before .loop-test .taken) (c .if1 .left))
 
-at-tail : tie.Need-returns-3 Inv-loop μ-loop
+at-tail : tie.Need-returns-2 Inv-loop μ-loop
 at-tail c =
     let args = c .before .before .before .before .args in
     let loop = c .before .loop in
@@ -51,4 +48,4 @@ at-tail c =
 
 pub survey-spec : {M : Type 1} → statement M
 survey-spec =
-    tie.close (tie.spec Inv-loop μ-loop (search needs) loop-holds out-of-range (search needs) not-rising (search needs) (search needs) loop-again at-tail)
+    tie.close (tie.spec Inv-loop μ-loop (search needs) loop-holds (search needs) broken-off (λ c. omega (arith, rose c)) (λ c. omega (arith, rose c)) loop-again at-tail)

@@ -1,28 +1,22 @@
 use mathlib.Core.Path.{sym, _∙_}
 use borrow.Author.Needs.{needs}
-use borrow.Author.Tests.{lt-ltb, le-ltb}
 use Rattle.arena.specs.Header.{headerRefusals}
 use Rattle.arena.proofs.header.header_verdict.Statement.{statement}
 use Rattle.arena.proofs.header.header_verdict.Tie as tie
 
 short : tie.Need-returns
 unfolding headerRefusals
-short c = rw (lt-ltb _ _ (c .if1 .taken))
+short c = rw (← c .before .word .ensures, c .if1 .taken)
 
-short-of-total : tie.Need-returns-2
-unfolding headerRefusals
-short-of-total c = rw (le-ltb _ _ (c .before .before .if1 .left), ← c .before .word .ensures, lt-ltb _ _ (c .if2 .taken))
-
-accepted : tie.Need-returns-3
+accepted : tie.Need-returns-2
 unfolding headerRefusals
 accepted c =
-    rw (le-ltb _ _ (c .before .before .before .before .if1 .left), ← c .before .before .before .word .ensures, le-ltb _ _ (c .before .before .if2 .left), sym (c .before .is-header .ensures) ∙ c .if3 .taken)
+    rw (← c .before .before .before .word .ensures, c .before .before .if1 .left, sym (c .before .is-header .ensures) ∙ c .if2 .taken)
 
-odd : tie.Need-returns-4
+odd : tie.Need-returns-3
 unfolding headerRefusals
 odd c =
-    rw (le-ltb _ _ (c .before .before .before .before .if1 .left), ← c .before .before .before .word .ensures, le-ltb _ _ (c .before .before .if2 .left), sym (c .before .is-header .ensures) ∙ c .if3 .left)
+    rw (← c .before .before .before .word .ensures, c .before .before .if1 .left, sym (c .before .is-header .ensures) ∙ c .if2 .left)
 
 pub header-verdict-spec : {M : Type 1} → statement M
-header-verdict-spec =
-    tie.close (tie.spec short (search needs) (search needs) short-of-total (search needs) accepted odd)
+header-verdict-spec = tie.close (tie.spec (search needs) (search needs) short (search needs) accepted odd)
