@@ -1,11 +1,11 @@
 -- Laws of a fresh arena.
-use Prim.Native.Nat.{ℕ, _+_, _*_, _-_, _≤_}
-use mathlib.Core.Path.{_≡_, sym, ap, _∙_}
-use mathlib.Core.List.{List, [], _∷_, _++_, flatten}
+use Prim.Native.Nat.{ℕ, _-_, _≤_}
+use mathlib.Core.Path.{_≡_}
+use mathlib.Core.List.{List, [], _++_}
 use mathlib.Core.Bool.{true}
 use native.Mathlib.Omega.{arith}
 use native.Mathlib.Nat.{zero-add}
-use lib.ListN.{length, drop, replicate, length-append}
+use lib.ListN.{length, drop, length-append}
 use lib.Seq.{sets, sets-eq}
 use borrow.Author.Tests.{not-false, ltb-false}
 use Rattle.worker.specs.Worker.{idleWorker}
@@ -13,34 +13,27 @@ use Rattle.worker.specs.Node.{unusedNode}
 use Rattle.arena.specs.Layout.{headerWidth, workerFrom, nodeWidth, layoutNumber, headerWords, total, goodCounts}
 use Rattle.arena.specs.Records.{workerWords, nodeWords}
 use Rattle.arena.specs.Replies.{accepted, replied}
-use Rattle.arena.specs.Init.{freshNodes, freshWords, initRefusals}
+use Rattle.arena.specs.Init.{freshWorkers, freshNodes, freshWords, initRefusals}
 use Rattle.arena.proofs.Bounds.{Counts, counts}
 use Rattle.arena.proofs.Judged.{none-holds}
 use Rattle.arena.proofs.Runs.{sets-append, length-copies}
 
-idleWorkers : ℕ → List ℕ
-idleWorkers workers = flatten (replicate workers (workerWords idleWorker))
-
 -- the nodes begin where the workers end
-nodes-place : (workers nodes : ℕ) → length (headerWords layoutNumber workers nodes ++ idleWorkers workers) ≡ workerFrom workers
-unfolding headerWords idleWorkers
-nodes-place workers nodes =
-    simp (length-copies workers (workerWords idleWorker)) (omega arith)
+nodes-place : (workers nodes : ℕ) → length (headerWords layoutNumber workers nodes ++ freshWorkers workers) ≡ workerFrom workers
+unfolding headerWords freshWorkers
+nodes-place workers nodes = simp (length-copies workers (workerWords idleWorker)) (omega arith)
 
 -- header, workers and nodes, written one after the other, are a fresh arena
 pub fresh-runs : (arena : List ℕ) (workers nodes : ℕ) →
-    sets
-    (sets (sets arena 0 (headerWords layoutNumber workers nodes)) headerWidth (flatten (replicate workers (workerWords idleWorker))))
-    (workerFrom workers)
-    (freshNodes nodes)
+    sets (sets (sets arena 0 (headerWords layoutNumber workers nodes)) headerWidth (freshWorkers workers)) (workerFrom workers) (freshNodes nodes)
     ≡ sets arena 0 (freshWords workers nodes)
-unfolding freshWords idleWorkers headerWords
+unfolding freshWords headerWords
 fresh-runs arena workers nodes =
     let header = headerWords layoutNumber workers nodes in
-    rw (sets-append (header ++ idleWorkers workers) (freshNodes nodes) arena 0, zero-add, nodes-place workers nodes, sets-append header (idleWorkers workers) arena 0)
+    rw (sets-append (header ++ freshWorkers workers) (freshNodes nodes) arena 0, zero-add, nodes-place workers nodes, sets-append header (freshWorkers workers) arena 0)
 
 pub fresh-length : (workers nodes : ℕ) → 2 ≤ nodes → length (freshWords workers nodes) ≡ total layoutNumber workers nodes
-unfolding freshWords freshNodes headerWords nodeWidth
+unfolding freshWords freshWorkers freshNodes headerWords nodeWidth
 fresh-length workers nodes h =
     simp (length-append, length-copies workers (workerWords idleWorker), length-copies (nodes - 2) (nodeWords unusedNode)) (omega arith)
 

@@ -10,16 +10,17 @@ use Rattle.arena.specs.Layout.{layoutNumber, goodCounts, headerWords, to
 use Rattle.arena.specs.Records.{workerWords, nodeWords}
 use Rattle.arena.specs.Replies.{Refusal, Reply, badCounts, shortArena, replied, written}
 
--- the node records of a fresh arena: Head, Tail, and all other nodes unused
+-- the worker records of a fresh arena: idle
+unfoldable pub freshWorkers : ℕ → List ℕ
+freshWorkers workers = flatten (replicate workers (workerWords idleWorker))
+
+-- its node records: Head, Tail, and all other nodes unused
 unfoldable pub freshNodes : ℕ → List ℕ
 freshNodes nodes = nodeWords headNode ++ nodeWords tailNode ++ flatten (replicate (nodes - 2) (nodeWords unusedNode))
 
--- a fresh arena: the header, idle workers, and the nodes
+-- a fresh arena
 unfoldable pub freshWords : ℕ → ℕ → List ℕ
-freshWords workers nodes =
-    headerWords layoutNumber workers nodes
-    ++ flatten (replicate workers (workerWords idleWorker))
-    ++ freshNodes nodes
+freshWords workers nodes = headerWords layoutNumber workers nodes ++ freshWorkers workers ++ freshNodes nodes
 
 -- order: 10, 1
 unfoldable pub initRefusals : List ℕ → ℕ → ℕ → List Refusal

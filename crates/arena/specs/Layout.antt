@@ -25,6 +25,44 @@ layoutNumber = 1
 unfoldable pub nodeWidth : ℕ → ℕ
 nodeWidth layout = cond (eqb layout layoutNumber) 4 0
 
+-- fields of a worker record: stage, operation, key, pred, curr, spare, answer, and a word that is 0
+abbrev pub workerStage : ℕ
+workerStage = 0
+
+abbrev pub workerOperation : ℕ
+workerOperation = 1
+
+abbrev pub workerKey : ℕ
+workerKey = 2
+
+abbrev pub workerPred : ℕ
+workerPred = 3
+
+abbrev pub workerCurr : ℕ
+workerCurr = 4
+
+abbrev pub workerSpare : ℕ
+workerSpare = 5
+
+abbrev pub workerAnswer : ℕ
+workerAnswer = 6
+
+abbrev pub workerReserved : ℕ
+workerReserved = 7
+
+-- fields of a node record: key, next, mark, owner
+abbrev pub nodeKey : ℕ
+nodeKey = 0
+
+abbrev pub nodeNext : ℕ
+nodeNext = 1
+
+abbrev pub nodeMark : ℕ
+nodeMark = 2
+
+abbrev pub nodeOwner : ℕ
+nodeOwner = 3
+
 -- where the record of a worker stands
 abbrev pub workerFrom : ℕ → ℕ
 workerFrom worker = headerWidth + workerWidth * worker

@@ -4,7 +4,7 @@ use mathlib.Core.List.{List, [], _∷_}
 use lib.Seq.{sets}
 use Rattle.worker.specs.declared.Node.{Node}
 use Rattle.worker.specs.declared.Worker.{Worker}
-use Rattle.arena.specs.Layout.{word, workerFrom, slot}
+use Rattle.arena.specs.Layout.{word, workerStage, workerOperation, workerKey, workerPred, workerCurr, workerSpare, workerAnswer, workerReserved, nodeKey, nodeNext, nodeMark, nodeOwner, workerFrom, slot}
 
 -- worker record, 8 words: stage, operation, key, pred, curr, spare, answer, 0
 abbrev pub workerWords : Worker → List ℕ
@@ -15,14 +15,14 @@ workerWords w =
 unfoldable pub workerAt : List ℕ → ℕ → Worker
 workerAt arena worker =
     record {
-      stage = word arena (workerFrom worker);
-      operation = word arena (workerFrom worker + 1);
-      key = word arena (workerFrom worker + 2);
-      pred = word arena (workerFrom worker + 3);
-      curr = word arena (workerFrom worker + 4);
-      spare = word arena (workerFrom worker + 5);
-      answer = word arena (workerFrom worker + 6);
-      reserved = word arena (workerFrom worker + 7);
+      stage = word arena (workerFrom worker + workerStage);
+      operation = word arena (workerFrom worker + workerOperation);
+      key = word arena (workerFrom worker + workerKey);
+      pred = word arena (workerFrom worker + workerPred);
+      curr = word arena (workerFrom worker + workerCurr);
+      spare = word arena (workerFrom worker + workerSpare);
+      answer = word arena (workerFrom worker + workerAnswer);
+      reserved = word arena (workerFrom worker + workerReserved);
     }
 
 -- the arena with the record of a worker written
@@ -33,26 +33,14 @@ withWorker arena worker w = sets arena (workerFrom worker) (workerWords w)
 abbrev pub nodeWords : Node → List ℕ
 nodeWords n = n .key ∷ n .next ∷ n .mark ∷ n .owner ∷ []
 
-abbrev pub keyField : ℕ
-keyField = 0
-
-abbrev pub nextField : ℕ
-nextField = 1
-
-abbrev pub markField : ℕ
-markField = 2
-
-abbrev pub ownerField : ℕ
-ownerField = 3
-
 -- a node, read from the part of an arena that holds the node records, each of some width
 unfoldable pub nodeAt : ℕ → List ℕ → ℕ → Node
 nodeAt width nodes node =
     record {
-      key = word nodes (slot width node keyField);
-      next = word nodes (slot width node nextField);
-      mark = word nodes (slot width node markField);
-      owner = word nodes (slot width node ownerField);
+      key = word nodes (slot width node nodeKey);
+      next = word nodes (slot width node nodeNext);
+      mark = word nodes (slot width node nodeMark);
+      owner = word nodes (slot width node nodeOwner);
     }
 
 abbrev pub keyAt : ℕ → List ℕ → ℕ → ℕ

@@ -5,9 +5,9 @@ ghost use mathlib.Core.List.{[], flatten};
 ghost use Prim.Native.Nat.{_≤_};
 ghost use lib.ListN.{length, replicate};
 ghost use lib.Seq.{sets};
-ghost use Rattle.arena.specs.Layout.{goodCounts};
+ghost use Rattle.arena.specs.Layout.{headerWidth, layoutNumber, goodCounts, headerWords};
 ghost use Rattle.arena.specs.Replies.{verdictReply, replied};
-ghost use Rattle.arena.specs.Init.{freshNodes, freshWords, initRefusals};
+ghost use Rattle.arena.specs.Init.{freshWorkers, freshNodes, freshWords, initRefusals};
 use crate::Verdict;
 use crate::layout;
 use crate::records::node_words;
@@ -33,11 +33,24 @@ pub(crate) fn write_fresh(arena: &mut [u16], workers: u16, nodes: u16)
     requires { ⌜ goodCounts workers nodes ≡ true ⌝ }
     ensures { λ _. ⌜ now (arena .exit) ≡ sets (now (arena .entry)) 0 (freshWords workers nodes) ⌝ }
 {
+    write_header(arena, workers, nodes);
+    write_workers(arena, workers);
+    write_nodes(arena, layout::worker_from(workers), nodes);
+}
+
+fn write_header(arena: &mut [u16], workers: u16, nodes: u16)
+    requires { ⌜ goodCounts workers nodes ≡ true ⌝ }
+    ensures { λ _. ⌜ now (arena .exit) ≡ sets (now (arena .entry)) 0 (headerWords layoutNumber workers nodes) ⌝ }
+{
     let header = layout::header_words(workers, nodes);
     write(arena, 0, &header);
+}
+
+fn write_workers(arena: &mut [u16], workers: u16)
+    ensures { λ _. ⌜ now (arena .exit) ≡ sets (now (arena .entry)) headerWidth (freshWorkers workers) ⌝ }
+{
     let idle = worker_words(Worker::idle());
     write_copies(arena, layout::HEADER_WIDTH, &idle, workers);
-    write_nodes(arena, layout::worker_from(workers), nodes);
 }
 
 // Head, Tail and the unused nodes.

@@ -25,14 +25,31 @@ pub const LAYOUT: u16 = 1;
 
 pub const NODE_WIDTH: u16 = 4;
 
+// Fields of a worker record.
+pub const WORKER_STAGE: u16 = 0;
+
+pub const WORKER_OPERATION: u16 = 1;
+
+pub const WORKER_KEY: u16 = 2;
+
+pub const WORKER_PRED: u16 = 3;
+
+pub const WORKER_CURR: u16 = 4;
+
+pub const WORKER_SPARE: u16 = 5;
+
+pub const WORKER_ANSWER: u16 = 6;
+
+pub const WORKER_RESERVED: u16 = 7;
+
 // Fields of a node record.
-pub const KEY: u16 = 0;
+pub const NODE_KEY: u16 = 0;
 
-pub const NEXT: u16 = 1;
+pub const NODE_NEXT: u16 = 1;
 
-pub const MARK: u16 = 2;
+pub const NODE_MARK: u16 = 2;
 
-pub const OWNER: u16 = 3;
+pub const NODE_OWNER: u16 = 3;
 
 // Words of a node record, by layout number; 0 where there is no such layout.
 pub fn node_width(layout: u16) -> u16

@@ -1,9 +1,9 @@
 // Worker and node records, read from and written to words.
+ghost use Prim.Native.Nat.{_+_};
 ghost use mathlib.Core.Path.{_≡_};
 ghost use Rattle.arena.specs.Records.{workerWords, workerAt, withWorker, nodeWords, nodeAt};
-ghost use Rattle.arena.specs.Layout.{word, slot};
-use crate::layout::slot;
-use crate::layout::worker_from;
+ghost use Rattle.arena.specs.Layout.{word, workerFrom, slot};
+use crate::layout;
 use crate::words::word;
 use crate::words::write;
 use worker::Node;
@@ -24,19 +24,25 @@ pub(crate) fn worker_words(worker: Worker) -> [u16; 8]
     ]
 }
 
-pub fn read_worker(arena: &[u16], worker: u16) -> Worker
-    ensures { λ r. ⌜ r ≡ workerAt (now (arena .entry)) worker ⌝ }
+// A field of a worker's record.
+pub fn worker_field(arena: &[u16], number: u16, field: u16) -> u16
+    ensures { λ r. ⌜ r ≡ word (now (arena .entry)) (workerFrom number + field) ⌝ }
 {
-    let at = worker_from(worker);
+    word(arena, layout::worker_from(number) + (field as usize))
+}
+
+pub fn read_worker(arena: &[u16], number: u16) -> Worker
+    ensures { λ r. ⌜ r ≡ workerAt (now (arena .entry)) number ⌝ }
+{
     Worker {
-        stage: word(arena, at),
-        operation: word(arena, at + 1),
-        key: word(arena, at + 2),
-        pred: word(arena, at + 3),
-        curr: word(arena, at + 4),
-        spare: word(arena, at + 5),
-        answer: word(arena, at + 6),
-        reserved: word(arena, at + 7),
+        stage: worker_field(arena, number, layout::WORKER_STAGE),
+        operation: worker_field(arena, number, layout::WORKER_OPERATION),
+        key: worker_field(arena, number, layout::WORKER_KEY),
+        pred: worker_field(arena, number, layout::WORKER_PRED),
+        curr: worker_field(arena, number, layout::WORKER_CURR),
+        spare: worker_field(arena, number, layout::WORKER_SPARE),
+        answer: worker_field(arena, number, layout::WORKER_ANSWER),
+        reserved: worker_field(arena, number, layout::WORKER_RESERVED),
     }
 }
 
@@ -44,7 +50,7 @@ pub fn write_worker(arena: &mut [u16], number: u16, worker: Worker)
     ensures { λ _. ⌜ now (arena .exit) ≡ withWorker (now (arena .entry)) number worker ⌝ }
 {
     let words = worker_words(worker);
-    write(arena, worker_from(number), &words);
+    write(arena, layout::worker_from(number), &words);
 }
 
 pub(crate) fn node_words(node: Node) -> [u16; 4]
@@ -57,16 +63,16 @@ pub(crate) fn node_words(node: Node) -> [u16; 4]
 pub fn node_field(nodes: &[u16], width: u16, node: u16, field: u16) -> u16
     ensures { λ r. ⌜ r ≡ word (now (nodes .entry)) (slot width node field) ⌝ }
 {
-    word(nodes, slot(width, node, field))
+    word(nodes, layout::slot(width, node, field))
 }
 
 pub fn read_node(nodes: &[u16], width: u16, node: u16) -> Node
     ensures { λ r. ⌜ r ≡ nodeAt width (now (nodes .entry)) node ⌝ }
 {
     Node {
-        key: node_field(nodes, width, node, crate::layout::KEY),
-        next: node_field(nodes, width, node, crate::layout::NEXT),
-        mark: node_field(nodes, width, node, crate::layout::MARK),
-        owner: node_field(nodes, width, node, crate::layout::OWNER),
+        key: node_field(nodes, width, node, layout::NODE_KEY),
+        next: node_field(nodes, width, node, layout::NODE_NEXT),
+        mark: node_field(nodes, width, node, layout::NODE_MARK),
+        owner: node_field(nodes, width, node, layout::NODE_OWNER),
     }
 }

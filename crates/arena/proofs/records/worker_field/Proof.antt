@@ -1,0 +1,9 @@
+use borrow.Author.Needs.{needs}
+use Rattle.arena.proofs.records.worker_field.Statement.{statement}
+use Rattle.arena.proofs.records.worker_field.Tie as tie
+
+returns : tie.Need-returns
+returns c = rw (c .word .ensures, c .before .worker-from .ensures)
+
+pub worker-field-spec : {M : Type 1} → statement M
+worker-field-spec = tie.close (tie.spec (search needs) (search needs) (search needs) returns)
