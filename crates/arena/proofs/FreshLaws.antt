@@ -14,7 +14,7 @@ use Rattle.arena.specs.Layout.{headerWidth, workerFrom, nodeWidth, layou
 use Rattle.arena.specs.Records.{workerWords, nodeWords}
 use Rattle.arena.specs.Replies.{accepted, replied}
 use Rattle.arena.specs.Init.{freshWorkers, freshNodes, freshWords, initRefusals}
-use Rattle.arena.proofs.Bounds.{Counts, counts}
+use Rattle.arena.proofs.Bounds.{counts}
 use Rattle.arena.proofs.Judged.{none-holds}
 use Rattle.arena.proofs.Runs.{sets-append, length-copies}
 
@@ -30,7 +30,12 @@ pub fresh-runs : (arena : List ℕ) (workers nodes : ℕ) →
 unfolding freshWords headerWords
 fresh-runs arena workers nodes =
     let header = headerWords layoutNumber workers nodes in
-    rw (sets-append (header ++ freshWorkers workers) (freshNodes nodes) arena 0, zero-add, nodes-place workers nodes, sets-append header (freshWorkers workers) arena 0)
+    rw (
+      sets-append (header ++ freshWorkers workers) (freshNodes nodes) arena 0,
+      zero-add,
+      nodes-place workers nodes,
+      sets-append header (freshWorkers workers) arena 0,
+    )
 
 pub fresh-length : (workers nodes : ℕ) → 2 ≤ nodes → length (freshWords workers nodes) ≡ total layoutNumber workers nodes
 unfolding freshWords freshWorkers freshNodes headerWords nodeWidth

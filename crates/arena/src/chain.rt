@@ -50,8 +50,13 @@ fn copy_keys(nodes: &[u16], width: u16, keys: &mut [u16], count: u16)
 
 // The keys of the chain, of the arena's part that holds the node records.
 pub(crate) fn write_keys(nodes: &[u16], width: u16, count: u16, keys: &mut [u16]) -> Listing
-    ensures answer { λ r. ⌜ listingReply r ≡ replied (chainRefusals width (now (nodes .entry)) count (length (now (keys .entry)))) (length (chainKeys width (now (nodes .entry)) count) ∷ []) ⌝ }
-    ensures words { λ _. ⌜ now (keys .exit) ≡ written (chainRefusals width (now (nodes .entry)) count (length (now (keys .entry)))) (now (keys .entry)) (chainKeys width (now (nodes .entry)) count ++ drop (length (chainKeys width (now (nodes .entry)) count)) (now (keys .entry))) ⌝ }
+    ensures answer { λ r. ⌜ listingReply r ≡ replied
+        (chainRefusals width (now (nodes .entry)) count (length (now (keys .entry))))
+        (length (chainKeys width (now (nodes .entry)) count) ∷ []) ⌝ }
+    ensures words { λ _. ⌜ now (keys .exit) ≡ written
+        (chainRefusals width (now (nodes .entry)) count (length (now (keys .entry))))
+        (now (keys .entry))
+        (chainKeys width (now (nodes .entry)) count ++ drop (length (chainKeys width (now (nodes .entry)) count)) (now (keys .entry))) ⌝ }
 {
     let found = survey(nodes, width, count);
     if let Listing::Keys(n) = found {

@@ -6,12 +6,15 @@ ghost use Prim.Native.Nat.{_≤_};
 ghost use lib.ListN.{length, replicate};
 ghost use lib.Seq.{sets};
 ghost use Rattle.arena.specs.Layout.{headerWidth, layoutNumber, goodCounts, headerWords};
+ghost use Rattle.worker.specs.Node.{unusedNode};
+ghost use Rattle.arena.specs.Records.{nodeWords};
 ghost use Rattle.arena.specs.Replies.{verdictReply, replied};
 ghost use Rattle.arena.specs.Init.{freshWorkers, freshNodes, freshWords, initRefusals};
 use crate::Verdict;
 use crate::layout;
 use crate::records::node_words;
 use crate::records::worker_words;
+use crate::records::write_node;
 use crate::refusal;
 use crate::words::write;
 use worker::Node;
@@ -58,12 +61,18 @@ fn write_nodes(arena: &mut [u16], from: usize, nodes: u16)
     requires { ⌜ (from ≤ 65000) × (2 ≤ nodes) ⌝ }
     ensures { λ _. ⌜ now (arena .exit) ≡ sets (now (arena .entry)) from (freshNodes nodes) ⌝ }
 {
-    let head = node_words(Node::head());
-    let tail = node_words(Node::tail());
+    let width = layout::NODE_WIDTH as usize;
+    write_node(arena, from, Node::head());
+    write_node(arena, from + width, Node::tail());
+    write_unused(arena, from + 2 * width, nodes - 2);
+}
+
+fn write_unused(arena: &mut [u16], from: usize, count: u16)
+    requires { ⌜ from ≤ 65535 ⌝ }
+    ensures { λ _. ⌜ now (arena .exit) ≡ sets (now (arena .entry)) from (flatten (replicate count (nodeWords unusedNode))) ⌝ }
+{
     let unused = node_words(Node::unused());
-    write(arena, from, &head);
-    write(arena, from + head.len(), &tail);
-    write_copies(arena, from + head.len() + tail.len(), &unused, nodes - 2);
+    write_copies(arena, from, &unused, count);
 }
 
 // The same values again and again, from a place on.

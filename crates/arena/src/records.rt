@@ -1,6 +1,7 @@
 // Worker and node records, read from and written to words.
 ghost use Prim.Native.Nat.{_+_};
 ghost use mathlib.Core.Path.{_≡_};
+ghost use lib.Seq.{sets};
 ghost use Rattle.arena.specs.Records.{workerWords, workerAt, withWorker, nodeWords, nodeAt};
 ghost use Rattle.arena.specs.Layout.{word, workerFrom, slot};
 use crate::layout;
@@ -57,6 +58,14 @@ pub(crate) fn node_words(node: Node) -> [u16; 4]
     ensures { λ r. ⌜ r ≡ nodeWords node ⌝ }
 {
     [node.key, node.next, node.mark, node.owner]
+}
+
+// A node, where its words begin.
+pub fn write_node(words: &mut [u16], at: usize, node: Node)
+    ensures { λ _. ⌜ now (words .exit) ≡ sets (now (words .entry)) at (nodeWords node) ⌝ }
+{
+    let values = node_words(node);
+    write(words, at, &values);
 }
 
 // A field of a node, of the arena's part that holds the node records.

@@ -1,7 +1,7 @@
 -- One table for the starred cases of document 01, "Small boards": a row lends words, makes some calls, asks one thing more, and says
 -- what is replied.
 use Prim.Native.Nat.{ℕ}
-use mathlib.Core.List.{List, [], _∷_, map}
+use mathlib.Core.List.{List, [], _∷_}
 use lib.ListN.{replicate}
 use Rattle.worker.specs.Worker.{add, contains}
 use Rattle.arena.specs.Layout.{word}

@@ -1,11 +1,12 @@
-use mathlib.Core.Path.{sym, ap, _∙_}
-use mathlib.Core.List.{[], _∷_}
+-- The header test comes first; behind it the chain's answer holds of the node records, which the header places.
+use mathlib.Core.Path.{_≡_, sym, ap, _∙_}
+use mathlib.Core.List.{[]}
 use native.Mathlib.Omega.{arith}
 use denote.Ref.{now}
 use lib.ListN.{length}
 use borrow.Author.Needs.{needs}
 use Rattle.arena.specs.Layout.{nodeWidth, nodePart, layoutOf, nodesOf}
-use Rattle.arena.specs.Replies.{verdictReply}
+use Rattle.arena.specs.Replies.{verdictReply, accepted as granted, replied}
 use Rattle.arena.specs.Header.{headerRefusals}
 use Rattle.arena.specs.Snapshot.{chainRefusals, keysOf, snapshotRefusals, snapshotAnswer, snapshotWords}
 use Rattle.arena.proofs.Judged.{refused-first, accepted-first}
@@ -13,38 +14,56 @@ use Rattle.arena.proofs.HeaderLaws.{Header, header-holds}
 use Rattle.arena.proofs.snapshot.Statement.{statement}
 use Rattle.arena.proofs.snapshot.Tie as tie
 
-returns : tie.Need-returns
+refused : tie.Need-returns
 unfolding snapshotAnswer snapshotWords snapshotRefusals
-returns c =
-    let arena = now (c .before .before .before .before .before .before .args .arena) in
-    let keys = now (c .before .before .before .before .before .before .args .keys) in
+refused c =
+    let args = c .before .before .before .before .before .before .args in
+    let arena = now (args .arena) in
     let told = sym (ap verdictReply (c .before .number .given .1)) ∙ c .before .before .before .header-verdict .ensures in
-    let chain = chainRefusals (nodeWidth (layoutOf arena)) (nodePart arena) (nodesOf arena) (length keys) in
+    let chain = chainRefusals (nodeWidth (layoutOf arena)) (nodePart arena) (nodesOf arena) (length (now (args .keys))) in
     (sym (refused-first (headerRefusals arena) chain [] _ _ told), sym (refused-first (headerRefusals arena) chain [] _ _ told))
 
-fine : (c : tie.After-word4) → Header (now (c .before .before .before .before .before .before .before .before .before .before .args .arena))
-fine c = header-holds (now (c .before .before .before .before .before .before .before .before .before .before .args .arena)) (sym (ap verdictReply (c .before .before .before .before .before .enum-told .given .1)) ∙ c .before .before .before .before .before .before .before .header-verdict .ensures)
+told : (c : tie.After-word4) → granted [] ≡ replied (headerRefusals (now (c .before .before .before .before .before .before .before .before .before .before .args .arena))) []
+told c =
+    sym (ap verdictReply (c .before .before .before .before .before .enum-told .given .1))
+    ∙ c .before .before .before .before .before .before .before .header-verdict .ensures
 
-sub-write-keys : tie.Need-sub-write-keys
-sub-write-keys c = omega (arith, fine c, c .before .before .before .before .word .ensures, c .before .before .before .word2 .ensures)
+header : (c : tie.After-word4) → Header (now (c .before .before .before .before .before .before .before .before .before .before .args .arena))
+header c = header-holds (now (c .before .before .before .before .before .before .before .before .before .before .args .arena)) (told c)
 
-part-write-keys-start : tie.Need-part-write-keys-start
-part-write-keys-start c = omega (arith, fine c, c .before .before .before .before .word .ensures, c .before .before .before .word2 .ensures)
+ordered : tie.Need-sub-write-keys
+ordered c =
+    omega (arith, header c, c .before .before .before .before .word .ensures, c .before .before .before .word2 .ensures)
 
-part-write-keys-end : tie.Need-part-write-keys-end
-part-write-keys-end c = omega (arith, fine c, c .before .before .before .word2 .ensures)
+starts : tie.Need-part-write-keys-start
+starts c =
+    omega (arith, header c, c .before .before .before .before .word .ensures, c .before .before .before .word2 .ensures)
 
-returns-2 : tie.Need-returns-2
+ends : tie.Need-part-write-keys-end
+ends c = omega (arith, header c, c .before .before .before .word2 .ensures)
+
+accepted : tie.Need-returns-2
 unfolding snapshotAnswer snapshotWords snapshotRefusals keysOf nodePart
-returns-2 c =
-    let arena = now (c .before .before .before .before .before .before .before .before .before .before .before .before .before .before .before .args .arena) in
-    let keys = now (c .before .before .before .before .before .before .before .before .before .before .before .before .before .before .before .args .keys) in
-    let told = sym (ap verdictReply (c .before .before .before .before .before .before .before .before .before .before .enum-told .given .1)) ∙ c .before .before .before .before .before .before .before .before .before .before .before .before .header-verdict .ensures in
-    let chain = chainRefusals (nodeWidth (layoutOf arena)) (nodePart arena) (nodesOf arena) (length keys) in (
-      rw (c .before .before .before .before .before .word4 .ensures, c .before .before .before .before .before .before .node-width .ensures, c .before .before .before .before .before .before .before .word3 .ensures, c .before .before .before .before .before .before .before .before .word2 .ensures, c .before .before .before .before .before .before .before .before .before .word .ensures) at (c .before .before .write-keys .ensures .0) ∙ sym (accepted-first (headerRefusals arena) chain [] _ _ told),
-      rw (c .before .before .before .before .before .word4 .ensures, c .before .before .before .before .before .before .node-width .ensures, c .before .before .before .before .before .before .before .word3 .ensures, c .before .before .before .before .before .before .before .before .word2 .ensures, c .before .before .before .before .before .before .before .before .before .word .ensures) at (c .before .before .write-keys .ensures .1) ∙ sym (accepted-first (headerRefusals arena) chain [] _ _ told),
+accepted c =
+    let reads = c .before .before .before .before .before in
+    let args = reads .before .before .before .before .before .before .before .before .before .before .args in
+    let arena = now (args .arena) in
+    let chain = chainRefusals (nodeWidth (layoutOf arena)) (nodePart arena) (nodesOf arena) (length (now (args .keys))) in
+    let listed =
+    rw (
+      reads .word4 .ensures,
+      reads .before .node-width .ensures,
+      reads .before .before .word3 .ensures,
+      reads .before .before .before .word2 .ensures,
+      reads .before .before .before .before .word .ensures,
+    ) at (c .before .before .write-keys .ensures) in (
+      listed .0 ∙ sym (accepted-first (headerRefusals arena) chain [] _ _ (told reads)),
+      listed .1 ∙ sym (accepted-first (headerRefusals arena) chain [] _ _ (told reads)),
     )
 
 pub snapshot-spec : {M : Type 1} → statement M
 snapshot-spec =
-    tie.close (tie.spec (search needs) (search needs) returns (search needs) (search needs) (search needs) (search needs) (search needs) (search needs) (search needs) (search needs) (search needs) sub-write-keys part-write-keys-start part-write-keys-end (search needs) (search needs) returns-2)
+    tie.close
+    (tie.spec (search needs) (search needs) refused (search needs) (search needs) (search needs) (search needs)
+    (search needs) (search needs) (search needs) (search needs) (search needs) ordered starts ends (search needs)
+    (search needs) accepted)

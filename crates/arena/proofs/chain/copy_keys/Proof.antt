@@ -28,8 +28,14 @@ loop-holds c = (omega arith, refl, rw sub-zero)
 loop-again : tie.Need-loop-again Inv-loop μ-loop
 loop-again c =
     let args = c .before .before .before .before .before .before .before .before .before .before .args in
-    let loop = c .before .before .before .before .before .before .loop in
-    (omega arith, c .before .before .put .kept .0 ∙ loop .inv .1, rw (c .before .before .put .ensures, c .before .before .before .before .read-node2 .ensures) (sym (keys-on (args .width) (now (args .nodes)) (args .count) (loop .keys) (loop .i) (args .count) (loop .at) (omega arith)) ∙ loop .inv .2))
+    let loop = c .before .before .before .before .before .before .loop in (
+      omega arith,
+      c .before .before .put .kept .0 ∙ loop .inv .1,
+      rw (
+        c .before .before .put .ensures,
+        c .before .before .before .before .read-node2 .ensures,
+      ) (sym (keys-on (args .width) (now (args .nodes)) (args .count) (loop .keys) (loop .i) (args .count) (loop .at) (omega arith)) ∙ loop .inv .2),
+    )
 
 returns : tie.Need-returns Inv-loop μ-loop
 unfolding linkedKeys
@@ -42,4 +48,6 @@ returns c =
 
 pub copy-keys-spec : {M : Type 1} → statement M
 copy-keys-spec =
-    tie.close (tie.spec Inv-loop μ-loop (search needs) loop-holds (search needs) (search needs) (search needs) (search needs) (search needs) loop-again (λ c. c .before .loop .inv .1) returns)
+    tie.close
+    (tie.spec Inv-loop μ-loop (search needs) loop-holds (search needs) (search needs) (search needs) (search needs)
+    (search needs) loop-again (λ c. c .before .loop .inv .1) returns)

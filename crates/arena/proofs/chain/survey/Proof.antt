@@ -26,26 +26,41 @@ broken-off : tie.Need-returns Inv-loop μ-loop
 broken-off c =
     let args = c .before .before .before .before .before .before .before .args in
     let loop = c .before .before .before .before .loop in
-    broken (args .width) (now (args .nodes)) (args .count) (c .before .before .before .before .before .read-node .result) _ (c .before .before .before .before .before .read-node .ensures)
-    (loop .inv .2 ∙ walk-break (args .width) (now (args .nodes)) (args .count) 65536 (loop .passed) (loop .last) (loop .at) _ (c .before .before .read-node2 .ensures) (omega arith) (c .before .before .before .loop-test .taken) (c .if1 .taken))
+    let first = c .before .before .before .before .before .read-node in
+    broken (args .width) (now (args .nodes)) (args .count) (first .result) _ (first .ensures)
+    (loop .inv .2
+    ∙ walk-break (args .width) (now (args .nodes)) (args .count) 65536 (loop .passed) (loop .last) (loop .at) _
+    (c .before .before .read-node2 .ensures) (omega arith) (c .before .before .before .loop-test .taken) (c .if1 .taken))
 
 rose : (c : tie.Else1 Inv-loop μ-loop) → c .before .before .before .before .loop .last < c .before .before .read-node2 .result .key
-rose c = rises (c .before .before .before .before .before .before .before .args .width) (now (c .before .before .before .before .before .before .before .args .nodes)) (c .before .before .before .before .before .before .before .args .count) (c .before .before .before .before .loop .at) _ _ (c .if1 .left)
+rose c =
+    let args = c .before .before .before .before .before .before .before .args in
+    rises (args .width) (now (args .nodes)) (args .count) (c .before .before .before .before .loop .at) _ _ (c .if1 .left)
 
 loop-again : tie.Need-loop-again Inv-loop μ-loop
 loop-again c =
     let args = c .before .before .before .before .before .before .before .args in
     let loop = c .before .before .before .before .loop in
-    let risen = rose c in
-    (omega arith, omega arith, loop .inv .2 ∙ walk-on (args .width) (now (args .nodes)) (args .count) 65536 (loop .passed) (loop .last) (loop .at) _ (c .before .before .read-node2 .ensures) (omega arith) (c .before .before .before .loop-test .taken) (c .if1 .left))
+    let risen = rose c in (
+      omega arith,
+      omega arith,
+      loop .inv .2
+          ∙ walk-on (args .width) (now (args .nodes)) (args .count) 65536 (loop .passed) (loop .last) (loop .at) _
+          (c .before .before .read-node2 .ensures) (omega arith) (c .before .before .before .loop-test .taken) (c .if1 .left),
+    )
 
 at-tail : tie.Need-returns-2 Inv-loop μ-loop
 at-tail c =
     let args = c .before .before .before .before .args in
     let loop = c .before .loop in
-    whole (args .width) (now (args .nodes)) (args .count) (c .before .before .read-node .result) (loop .passed) (c .before .before .read-node .ensures)
-    (loop .inv .2 ∙ walk-end (args .width) (now (args .nodes)) (args .count) 65536 (loop .passed) (loop .last) (loop .at) (omega arith) (c .loop-test .left))
+    let first = c .before .before .read-node in
+    whole (args .width) (now (args .nodes)) (args .count) (first .result) (loop .passed) (first .ensures)
+    (loop .inv .2
+    ∙ walk-end (args .width) (now (args .nodes)) (args .count) 65536 (loop .passed) (loop .last) (loop .at)
+    (omega arith) (c .loop-test .left))
 
 pub survey-spec : {M : Type 1} → statement M
 survey-spec =
-    tie.close (tie.spec Inv-loop μ-loop (search needs) loop-holds (search needs) broken-off (λ c. omega (arith, rose c)) (λ c. omega (arith, rose c)) loop-again at-tail)
+    tie.close
+    (tie.spec Inv-loop μ-loop (search needs) loop-holds (search needs) broken-off (λ c. omega (arith, rose c))
+    (λ c. omega (arith, rose c)) loop-again at-tail)

@@ -5,7 +5,7 @@ use mathlib.Core.List.{flatten}
 use native.Mathlib.Omega.{arith}
 use denote.Ref.{now}
 use lib.ListN.{length, replicate}
-use lib.Seq.{sets, length-sets}
+use lib.Seq.{sets}
 use borrow.Author.Needs.{needs}
 use Rattle.arena.proofs.Runs.{copies-on}
 use Rattle.arena.proofs.fresh.write_copies.Statement.{statement}
@@ -34,4 +34,6 @@ returns c =
 
 pub write-copies-spec : {M : Type 1} → statement M
 write-copies-spec =
-    tie.close (tie.spec Inv-loop μ-loop (λ c. (omega arith, refl, refl)) (search needs) (search needs) (search needs) (search needs) loop-again (λ c. c .before .loop .inv .1) returns)
+    tie.close
+    (tie.spec Inv-loop μ-loop (λ c. (omega arith, refl, refl)) (search needs) (search needs) (search needs)
+    (search needs) loop-again (λ c. c .before .loop .inv .1) returns)

@@ -1,7 +1,8 @@
+-- Header, workers and nodes are one run of words.
 use borrow.Author.Needs.{needs}
 use native.Mathlib.Omega.{arith}
 use denote.Ref.{now}
-use Rattle.arena.proofs.Bounds.{Counts, counts}
+use Rattle.arena.proofs.Bounds.{counts}
 use Rattle.arena.proofs.FreshLaws.{fresh-runs}
 use Rattle.arena.proofs.fresh.write_fresh.Statement.{statement}
 use Rattle.arena.proofs.fresh.write_fresh.Tie as tie
@@ -14,7 +15,12 @@ write-nodes-requires c κs =
 returns : tie.Need-returns
 returns c =
     let args = c .before .before .before .before .before .before .before .before .before .before .before .before .before .before .args in
-    rw (c .before .before .write-nodes .ensures, c .before .before .before .worker-from .ensures, c .before .before .before .before .before .before .before .write-workers .ensures, c .before .before .before .before .before .before .before .before .before .before .before .write-header .ensures)
+    rw (
+      c .before .before .write-nodes .ensures,
+      c .before .before .before .worker-from .ensures,
+      c .before .before .before .before .before .before .before .write-workers .ensures,
+      c .before .before .before .before .before .before .before .before .before .before .before .write-header .ensures,
+    )
     (fresh-runs (now (args .arena)) (args .workers) (args .nodes))
 
 pub write-fresh-spec : {M : Type 1} → statement M

@@ -1,3 +1,4 @@
+-- The header's words, written from word 0 on.
 use borrow.Author.Needs.{needs}
 use Rattle.arena.proofs.fresh.write_header.Statement.{statement}
 use Rattle.arena.proofs.fresh.write_header.Tie as tie

@@ -1,3 +1,4 @@
+-- Each test decides the definition's choice.
 use mathlib.Core.Path.{sym, _∙_}
 use borrow.Author.Needs.{needs}
 use Rattle.arena.specs.Header.{headerRefusals}

@@ -1,3 +1,4 @@
+-- Good counts keep the offsets within a word.
 use native.Mathlib.Omega.{arith}
 use borrow.Author.Needs.{needs}
 use Rattle.arena.specs.Layout.{headerWords}
@@ -8,11 +9,11 @@ use Rattle.arena.proofs.layout.header_words.Tie as tie
 fits : (c : tie.After-total) → Counts (c .before .before .args .workers) (c .before .before .args .nodes)
 fits c = counts (c .before .before .args .workers) (c .before .before .args .nodes) (c .before .before .pre)
 
-cast-t6 : tie.Need-cast-t6
-cast-t6 c = omega (arith, fits c, c .before .worker-from .ensures)
+nodes-from-fits : tie.Need-cast-t6
+nodes-from-fits c = omega (arith, fits c, c .before .worker-from .ensures)
 
-cast-t7 : tie.Need-cast-t7
-cast-t7 c =
+total-in-word : tie.Need-cast-t7
+total-in-word c =
     omega (arith, c .total .ensures, total-fits (c .before .before .args .workers) (c .before .before .args .nodes) (fits c))
 
 returns : tie.Need-returns
@@ -21,4 +22,4 @@ returns c = rw (c .total .ensures, c .before .worker-from .ensures)
 
 pub header-words-spec : {M : Type 1} → statement M
 header-words-spec =
-    tie.close (tie.spec (search needs) (search needs) (search needs) cast-t6 cast-t7 returns)
+    tie.close (tie.spec (search needs) (search needs) (search needs) nodes-from-fits total-in-word returns)

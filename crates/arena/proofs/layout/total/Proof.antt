@@ -1,3 +1,4 @@
+-- The sum of the two parts.
 use borrow.Author.Needs.{needs}
 use Rattle.arena.proofs.layout.total.Statement.{statement}
 use Rattle.arena.proofs.layout.total.Tie as tie

@@ -1,3 +1,4 @@
+-- The word at the slot.
 use borrow.Author.Needs.{needs}
 use Rattle.arena.proofs.records.node_field.Statement.{statement}
 use Rattle.arena.proofs.records.node_field.Tie as tie

@@ -1,3 +1,4 @@
+-- Each field is read where the definition reads it.
 use borrow.Author.Needs.{needs}
 use Rattle.arena.specs.Records.{nodeAt}
 use Rattle.arena.proofs.records.read_node.Statement.{statement}
@@ -6,7 +7,12 @@ use Rattle.arena.proofs.records.read_node.Tie as tie
 returns : tie.Need-returns
 unfolding nodeAt
 returns c =
-    rw (c .node-field4 .ensures, c .before .node-field3 .ensures, c .before .before .node-field2 .ensures, c .before .before .before .node-field .ensures)
+    rw (
+      c .node-field4 .ensures,
+      c .before .node-field3 .ensures,
+      c .before .before .node-field2 .ensures,
+      c .before .before .before .node-field .ensures,
+    )
 
 pub read-node-spec : {M : Type 1} → statement M
 read-node-spec =

@@ -1,3 +1,4 @@
+-- Each field is read where the definition reads it.
 use borrow.Author.Needs.{needs}
 use Rattle.arena.specs.Records.{workerAt}
 use Rattle.arena.proofs.records.read_worker.Statement.{statement}
@@ -5,8 +6,20 @@ use Rattle.arena.proofs.records.read_worker.Tie as tie
 
 returns : tie.Need-returns
 unfolding workerAt
-returns c = rw (c .worker-field8 .ensures, c .before .worker-field7 .ensures, c .before .before .worker-field6 .ensures, c .before .before .before .worker-field5 .ensures, c .before .before .before .before .worker-field4 .ensures, c .before .before .before .before .before .worker-field3 .ensures, c .before .before .before .before .before .before .worker-field2 .ensures, c .before .before .before .before .before .before .before .worker-field .ensures)
+returns c =
+    rw (
+      c .worker-field8 .ensures,
+      c .before .worker-field7 .ensures,
+      c .before .before .worker-field6 .ensures,
+      c .before .before .before .worker-field5 .ensures,
+      c .before .before .before .before .worker-field4 .ensures,
+      c .before .before .before .before .before .worker-field3 .ensures,
+      c .before .before .before .before .before .before .worker-field2 .ensures,
+      c .before .before .before .before .before .before .before .worker-field .ensures,
+    )
 
 pub read-worker-spec : {M : Type 1} → statement M
 read-worker-spec =
-    tie.close (tie.spec (search needs) (search needs) (search needs) (search needs) (search needs) (search needs) (search needs) (search needs) returns)
+    tie.close
+    (tie.spec (search needs) (search needs) (search needs) (search needs) (search needs) (search needs) (search needs)
+    (search needs) returns)

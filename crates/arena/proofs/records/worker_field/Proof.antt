@@ -1,3 +1,4 @@
+-- The word at the field, from where the worker stands.
 use borrow.Author.Needs.{needs}
 use Rattle.arena.proofs.records.worker_field.Statement.{statement}
 use Rattle.arena.proofs.records.worker_field.Tie as tie

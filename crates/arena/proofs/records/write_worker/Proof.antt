@@ -1,3 +1,4 @@
+-- The words of the record, written where the worker stands.
 use borrow.Author.Needs.{needs}
 use Rattle.arena.specs.Records.{withWorker}
 use Rattle.arena.proofs.records.write_worker.Statement.{statement}
@@ -5,7 +6,12 @@ use Rattle.arena.proofs.records.write_worker.Tie as tie
 
 returns : tie.Need-returns
 unfolding withWorker
-returns c = rw (c .before .before .write .ensures, c .before .before .before .before .worker-from .ensures, c .before .before .before .before .before .before .worker-words .ensures)
+returns c =
+    rw (
+      c .before .before .write .ensures,
+      c .before .before .before .before .worker-from .ensures,
+      c .before .before .before .before .before .before .worker-words .ensures,
+    )
 
 pub write-worker-spec : {M : Type 1} → statement M
 write-worker-spec =

@@ -35,4 +35,6 @@ returns-2 c =
 
 pub agree-spec : {M : Type 1} → statement M
 agree-spec =
-    tie.close (tie.spec Inv-loop μ-loop (search needs) (search needs) (search needs) (search needs) returns (search needs) (search needs) loop-again returns-2)
+    tie.close
+    (tie.spec Inv-loop μ-loop (search needs) (search needs) (search needs) (search needs) returns (search needs)
+    (search needs) loop-again returns-2)

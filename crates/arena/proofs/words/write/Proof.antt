@@ -1,9 +1,9 @@
 -- The invariant: the first i values are written.
-use Prim.Native.Nat.{_≤_, _<_, _-_}
-use mathlib.Core.Path.{_≡_, sym, _∙_, ap}
+use Prim.Native.Nat.{_≤_, _-_}
+use mathlib.Core.Path.{_≡_, sym, _∙_}
 use native.Mathlib.Omega.{arith}
 use denote.Ref.{now}
-use lib.ListN.{length, take, length-set}
+use lib.ListN.{length, take}
 use lib.Seq.{sets, length-sets, take-all}
 use borrow.Author.Needs.{needs}
 use Rattle.arena.proofs.Runs.{sets-out, sets-grow}
@@ -31,8 +31,14 @@ same-length : tie.Need-same-length Inv-loop μ-loop
 same-length c = simp (c .before .loop .inv .1, length-sets)
 
 returns-2 : tie.Need-returns-2 Inv-loop μ-loop
-returns-2 c = rw (c .before .loop .inv .1, take-all (c .before .loop .i) (now (c .before .before .before .before .before .args .values)) (c .loop-test .left))
+returns-2 c =
+    rw (
+      c .before .loop .inv .1,
+      take-all (c .before .loop .i) (now (c .before .before .before .before .before .args .values)) (c .loop-test .left),
+    )
 
 pub write-spec : {M : Type 1} → statement M
 write-spec =
-    tie.close (tie.spec Inv-loop μ-loop returns (search needs) (search needs) (search needs) (search needs) (search needs) (search needs) (search needs) loop-again same-length returns-2)
+    tie.close
+    (tie.spec Inv-loop μ-loop returns (search needs) (search needs) (search needs) (search needs) (search needs)
+    (search needs) (search needs) loop-again same-length returns-2)
