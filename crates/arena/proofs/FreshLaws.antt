@@ -1,20 +1,22 @@
 -- Laws of a fresh arena.
 use Prim.Native.Nat.{ℕ, _-_, _≤_}
-use mathlib.Core.Path.{_≡_}
+use mathlib.Core.Path.{_≡_, refl}
 use mathlib.Core.List.{List, [], _++_}
 use mathlib.Core.Bool.{true}
 use native.Mathlib.Omega.{arith}
 use native.Mathlib.Nat.{zero-add}
 use lib.ListN.{length, drop, length-append}
 use lib.Seq.{sets, sets-eq}
-use borrow.Author.Tests.{not-false, ltb-false}
+use borrow.Author.Tests.{le-ltb, not-false, ltb-false}
 use Rattle.worker.specs.Worker.{idleWorker}
 use Rattle.worker.specs.Node.{unusedNode}
 use Rattle.arena.specs.Layout.{headerWidth, workerFrom, nodeWidth, layoutNumber, headerWords, total, goodCounts}
 use Rattle.arena.specs.Records.{workerWords, nodeWords}
 use Rattle.arena.specs.Replies.{accepted, replied}
+use Rattle.arena.specs.Header.{isHeader, headerRefusals}
 use Rattle.arena.specs.Init.{freshWorkers, freshNodes, freshWords, initRefusals}
 use Rattle.arena.proofs.Bounds.{counts}
+use Rattle.arena.proofs.HeaderLaws.{header-of-some}
 use Rattle.arena.proofs.Judged.{none-holds}
 use Rattle.arena.proofs.Runs.{sets-append, length-copies}
 
@@ -57,3 +59,15 @@ init-words arena workers nodes e =
     let k = counts workers nodes (p .0) in
     let l = fresh-length workers nodes (omega arith) in
     rw (sets-eq (freshWords workers nodes) arena 0 (omega arith), zero-add, l)
+
+-- a fresh arena passes the header test, whatever words stand behind it
+pub fresh-header : (workers nodes : ℕ) (past : List ℕ) → goodCounts workers nodes ≡ true →
+    replied (headerRefusals (freshWords workers nodes ++ past)) [] ≡ accepted []
+unfolding headerRefusals freshWords headerWords
+fresh-header workers nodes past good =
+    let arena = freshWords workers nodes ++ past in
+    let k = counts workers nodes good in
+    let l = fresh-length workers nodes (omega arith) in
+    let long : total layoutNumber workers nodes ≤ length arena = rw length-append (omega arith) in
+    let right : isHeader arena ≡ true = header-of-some arena (omega arith) .1 (workers, nodes, good, refl) in
+    rw (le-ltb (length arena) headerWidth (omega arith), le-ltb (length arena) (total layoutNumber workers nodes) long, right)

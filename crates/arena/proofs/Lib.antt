@@ -5,3 +5,4 @@ pub mod Judged
 pub mod FreshLaws
 pub mod Walks
 pub mod HeaderLaws
+pub mod RecordLaws

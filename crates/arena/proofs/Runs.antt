@@ -1,13 +1,13 @@
 -- Runs of words: written one after the other, and compared.
 use Prim.Native.Nat.{ℕ, zero, suc, _+_, _*_, _-_, _≤_, _<_}
-use mathlib.Core.Path.{_≡_, refl, sym}
+use mathlib.Core.Path.{_≡_, refl, sym, _∙_}
 use mathlib.Core.List.{List, [], _∷_, _++_, flatten}
 use mathlib.Core.Bool.{true, false}
 use native.Mathlib.Nat.{add-zero, add-suc, suc-add, mul-zero, mul-suc}
 use native.Mathlib.Numerals.{add-one, sub-one}
 use native.Mathlib.Omega.{arith}
-use lib.ListN.{length, take, drop, set, replicate, length-append, drop-of-length-le}
-use lib.Seq.{sets, set-out, take-suc, drop-cons, length-take-le}
+use lib.ListN.{length, take, drop, set, replicate, length-append, length-set, drop-of-length-le}
+use lib.Seq.{sets, set-out, getD-set-same, getD-set-other, take-suc, drop-cons, length-take-le}
 use borrow.Author.Tests.{eq-eqb, ne-eqb}
 use Rattle.arena.specs.Layout.{word}
 use Rattle.arena.specs.Header.{agrees}
@@ -33,6 +33,24 @@ length-copies (suc k) vs = rw (length-append, length-copies k vs, mul-suc) (omeg
 pub sets-out : (vs l : List ℕ) (i : ℕ) → length l ≤ i → sets l i vs ≡ l
 sets-out [] l i h = refl
 sets-out (v ∷ vs) l i h = rw (set-out l i v h) (sets-out vs l (suc i) (omega arith))
+
+-- what stands before a run, behind it, and in it
+pub sets-before : (vs l : List ℕ) (i j : ℕ) → j < i → word (sets l i vs) j ≡ word l j
+sets-before [] l i j h = refl
+sets-before (v ∷ vs) l i j h =
+    sets-before vs (set l i v) (suc i) j (omega arith) ∙ getD-set-other l i j v 0 (λ e. omega arith)
+
+pub sets-behind : (vs l : List ℕ) (i j : ℕ) → i + length vs ≤ j → word (sets l i vs) j ≡ word l j
+sets-behind [] l i j h = refl
+sets-behind (v ∷ vs) l i j h =
+    sets-behind vs (set l i v) (suc i) j (omega arith) ∙ getD-set-other l i j v 0 (λ e. omega arith)
+
+pub sets-at : (vs l : List ℕ) (i k : ℕ) → k < length vs → i + length vs ≤ length l → word (sets l i vs) (i + k) ≡ word vs k
+sets-at [] l i k h g = absurd (omega arith)
+sets-at (v ∷ vs) l i zero h g =
+    rw add-zero (sets-before vs (set l i v) (suc i) i (omega arith) ∙ getD-set-same l i v 0 (omega arith))
+sets-at (v ∷ vs) l i (suc k) h g =
+    rw (add-suc, ← suc-add) (sets-at vs (set l i v) (suc i) k (omega arith) (rw length-set (omega arith)))
 
 -- a run grows by one word
 pub sets-grow : (vs l l₀ : List ℕ) (i k : ℕ) → k < length vs → l ≡ sets l₀ i (take k vs) → set l (i + k) (word vs k) ≡ sets l₀ i (take (k + 1) vs)

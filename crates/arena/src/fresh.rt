@@ -2,7 +2,7 @@
 ghost use mathlib.Core.Path.{_≡_};
 ghost use mathlib.Core.Bool.{true};
 ghost use mathlib.Core.List.{[], flatten};
-ghost use Prim.Native.Nat.{_≤_};
+ghost use Prim.Native.Nat.{_≤_, _<_, _^_};
 ghost use lib.ListN.{length, replicate};
 ghost use lib.Seq.{sets};
 ghost use Rattle.arena.specs.Layout.{headerWidth, layoutNumber, goodCounts, headerWords};
@@ -58,7 +58,7 @@ fn write_workers(arena: &mut [u16], workers: u16)
 
 // Head, Tail and the unused nodes.
 fn write_nodes(arena: &mut [u16], from: usize, nodes: u16)
-    requires { ⌜ (from ≤ 65000) × (2 ≤ nodes) ⌝ }
+    requires { ⌜ (from < 2 ^ 16) × (2 ≤ nodes) ⌝ }
     ensures { λ _. ⌜ now (arena .exit) ≡ sets (now (arena .entry)) from (freshNodes nodes) ⌝ }
 {
     let width = layout::NODE_WIDTH as usize;
@@ -68,7 +68,7 @@ fn write_nodes(arena: &mut [u16], from: usize, nodes: u16)
 }
 
 fn write_unused(arena: &mut [u16], from: usize, count: u16)
-    requires { ⌜ from ≤ 65535 ⌝ }
+    requires { ⌜ from < 2 ^ 32 ⌝ }
     ensures { λ _. ⌜ now (arena .exit) ≡ sets (now (arena .entry)) from (flatten (replicate count (nodeWords unusedNode))) ⌝ }
 {
     let unused = node_words(Node::unused());
@@ -77,7 +77,7 @@ fn write_unused(arena: &mut [u16], from: usize, count: u16)
 
 // The same values again and again, from a place on.
 fn write_copies(words: &mut [u16], from: usize, values: &[u16], count: u16)
-    requires { ⌜ (from ≤ 65535) × (length (now values) ≤ 8) ⌝ }
+    requires { ⌜ (from < 2 ^ 32) × (length (now values) ≤ 8) ⌝ }
     ensures { λ _. ⌜ now (words .exit) ≡ sets (now (words .entry)) from (flatten (replicate count (now (values .entry)))) ⌝ }
 {
     let mut at = from;

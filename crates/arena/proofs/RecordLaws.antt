@@ -1,0 +1,61 @@
+-- Laws of a worker's record in an arena, and of a start, which writes one.
+use Prim.Native.Nat.{ℕ, _+_, _≤_, _<_}
+use mathlib.Core.Path.{_≡_, refl}
+use mathlib.Core.Logic.{_⊎_, ⊎-elim}
+use mathlib.Core.Bool.{Bool, true, false, cond}
+use mathlib.Core.List.{List, [], _∷_}
+use native.Mathlib.Omega.{arith}
+use lib.ListN.{length}
+use lib.Seq.{sets}
+use Rattle.worker.specs.declared.Worker.{Worker}
+use Rattle.worker.specs.Worker.{startedWorker}
+use Rattle.arena.specs.Layout.{word, workerWidth, workerFrom}
+use Rattle.arena.specs.Records.{workerWords, workerAt, withWorker}
+use Rattle.arena.specs.Replies.{Refusal, written}
+use Rattle.arena.specs.Start.{startRefusals, startArena}
+use Rattle.arena.proofs.Runs.{sets-before, sets-behind, sets-at}
+
+-- a place outside the record of a worker
+abbrev pub Outside : ℕ → ℕ → Type 0
+Outside worker at = (at < workerFrom worker) ⊎ (workerFrom worker + workerWidth ≤ at)
+
+module _ (arena : List ℕ) (worker : ℕ) (w : Worker) where
+  -- the record that was written is read back
+  pub read-back : workerFrom worker + workerWidth ≤ length arena → workerAt (withWorker arena worker w) worker ≡ w
+  unfolding workerAt withWorker
+  read-back h =
+      let field : (k : ℕ) → k < 8 → word (sets arena (workerFrom worker) (workerWords w)) (workerFrom worker + k) ≡ word (workerWords w) k
+      = λ k l. sets-at (workerWords w) arena (workerFrom worker) k l h in
+      rw (
+        field 0 (omega arith),
+        field 1 (omega arith),
+        field 2 (omega arith),
+        field 3 (omega arith),
+        field 4 (omega arith),
+        field 5 (omega arith),
+        field 6 (omega arith),
+        field 7 (omega arith),
+      )
+
+  -- and nothing else is written
+  pub others-stay : (at : ℕ) → Outside worker at → word (withWorker arena worker w) at ≡ word arena at
+  unfolding withWorker
+  others-stay at = ⊎-elim (sets-before (workerWords w) arena (workerFrom worker) at) (sets-behind (workerWords w) arena (workerFrom worker) at)
+
+-- what both outcomes of a judgement have, it has
+written-keeps : (P : List ℕ → Type 0) (rs : List Refusal) (before after : List ℕ) → P before → P after → P (written rs before after)
+written-keeps P [] before after p q = q
+written-keeps P (r ∷ rs) before after p q = go (r .0) (written-keeps P rs before after p q)
+  where
+    go : (t : Bool) → P (written rs before after) → P (cond t before (written rs before after))
+    go true more = p
+    go false more = more
+
+-- a start writes the worker's record and nothing else
+pub start-writes : (arena : List ℕ) (worker operation key at : ℕ) → Outside worker at →
+    word (startArena arena worker operation key) at ≡ word arena at
+unfolding startArena
+start-writes arena worker operation key at outside =
+    written-keeps (λ (words : List ℕ). word words at ≡ word arena at) (startRefusals arena worker operation key) arena
+    (withWorker arena worker (startedWorker operation key)) refl
+    (others-stay arena worker (startedWorker operation key) at outside)
