@@ -3,7 +3,7 @@ use Prim.Native.Nat.{ℕ, zero, suc, _+_, _≤_, _<_}
 use mathlib.Core.Path.{_≡_, refl, sym, ap, _∙_}
 use mathlib.Core.Logic.{_↔_}
 use mathlib.Core.List.{List, [], _∷_}
-use mathlib.Core.Bool.{Bool, true, false, _||_, and-eq-true-iff}
+use mathlib.Core.Bool.{Bool, true, false, _||_, true≢false, and-eq-true-iff}
 use native.Mathlib.Omega.{arith}
 use native.Mathlib.Nat.{zero-add, add-zero, add-suc, suc-add}
 use lib.ListN.{length, take}
@@ -43,7 +43,7 @@ pub record Header (arena : List ℕ) : Type 0 where
   pub end : totalOf arena ≡ total (layoutOf arena) (workersOf arena) (nodesOf arena)
 
 or-false : (a b : Bool) → (a || b) ≡ false → (a ≡ false) × (b ≡ false)
-or-false true b e = (e, let z : _≡_ {A = ℕ} 0 1 = cc in absurd (omega arith))
+or-false true b e = (e, absurd (true≢false e))
 or-false false b e = (refl, e)
 
 pub header-holds : (arena : List ℕ) {values : List ℕ} → accepted values ≡ replied (headerRefusals arena) [] → Header arena

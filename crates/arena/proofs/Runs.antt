@@ -6,8 +6,8 @@ use mathlib.Core.Bool.{true, false}
 use native.Mathlib.Nat.{add-zero, add-suc, suc-add, mul-zero, mul-suc}
 use native.Mathlib.Numerals.{add-one, sub-one}
 use native.Mathlib.Omega.{arith}
-use lib.ListN.{length, take, drop, set, replicate, length-append, length-set, drop-of-length-le}
-use lib.Seq.{sets, set-out, getD-set-same, getD-set-other, take-suc, drop-cons, length-take-le}
+use lib.ListN.{length, drop, set, replicate, length-append, length-set, drop-of-length-le}
+use lib.Seq.{sets, set-out, getD-set-same, getD-set-other, drop-cons}
 use borrow.Author.Tests.{eq-eqb, ne-eqb}
 use Rattle.arena.specs.Layout.{word}
 use Rattle.arena.specs.Header.{agrees}
@@ -16,6 +16,11 @@ use Rattle.arena.specs.Header.{agrees}
 pub sets-append : (vs ws l : List ℕ) (i : ℕ) → sets l i (vs ++ ws) ≡ sets (sets l i vs) (i + length vs) ws
 sets-append [] ws l i = rw add-zero
 sets-append (v ∷ vs) ws l i = rw (add-suc, ← suc-add) (sets-append vs ws (set l i v) (suc i))
+
+-- the first word of what is left of a run, and then the others
+pub sets-on : (vs l : List ℕ) (i k : ℕ) → k < length vs →
+    sets l (i + k) (drop k vs) ≡ sets (set l (i + k) (word vs k)) (i + (k + 1)) (drop (k + 1) vs)
+sets-on vs l i k h = rw (add-one, drop-cons vs k 0 h, add-suc)
 
 -- the first of some copies, and then the others
 pub copies-on : (vs l : List ℕ) (i k : ℕ) → 0 < k →
@@ -51,11 +56,6 @@ sets-at (v ∷ vs) l i zero h g =
     rw add-zero (sets-before vs (set l i v) (suc i) i (omega arith) ∙ getD-set-same l i v 0 (omega arith))
 sets-at (v ∷ vs) l i (suc k) h g =
     rw (add-suc, ← suc-add) (sets-at vs (set l i v) (suc i) k (omega arith) (rw length-set (omega arith)))
-
--- a run grows by one word
-pub sets-grow : (vs l l₀ : List ℕ) (i k : ℕ) → k < length vs → l ≡ sets l₀ i (take k vs) → set l (i + k) (word vs k) ≡ sets l₀ i (take (k + 1) vs)
-sets-grow vs l l₀ i k h e =
-    rw (e, add-one, take-suc vs k 0 h, sets-append (take k vs) (word vs k ∷ []) l₀ i, length-take-le k vs (omega arith))
 
 -- a comparison past words that agree, at words that differ, and at its end
 pub agrees-on : (words vs : List ℕ) (k : ℕ) → k < length vs → word words k ≡ word vs k → agrees words k (drop k vs) ≡ agrees words (k + 1) (drop (k + 1) vs)

@@ -2,8 +2,8 @@
 use Prim.Native.Nat.{ℕ, zero, suc, _+_, _-_, _≤_, _<_}
 use mathlib.Core.Path.{_≡_, refl, ap, _∙_}
 use mathlib.Core.List.{List, [], _∷_, _++_, map}
-use mathlib.Core.Bool.{Bool, true, false, cond, not, _&&_, and-eq-true-iff}
-use mathlib.Core.Option.{Option, none, some, Option·map, Option·getD}
+use mathlib.Core.Bool.{Bool, true, false, cond, not, _&&_, true≢false, and-eq-true-iff}
+use mathlib.Core.Option.{Option, none, some, Option·map, Option·getD, Option·none-ne-some, Option·some-ne-none}
 use native.Mathlib.Omega.{arith}
 use native.Mathlib.Nat.{zero-add, add-zero, suc-add}
 use native.Mathlib.Numerals.{add-one}
@@ -76,7 +76,7 @@ module _ (width : ℕ) (nodes : List ℕ) (count : ℕ) where
     where
       go : (o : Option (List ℕ)) → ahead 0 o ≡ none → refused brokenChain ≡ cond (isNone o) (refused brokenChain) (accepted values)
       go none e = refl
-      go (some ns) e = let z : _≡_ {A = ℕ} 0 1 = cc in absurd (omega arith)
+      go (some ns) e = absurd (Option·some-ne-none (0 + length ns) e)
 
   pub whole : (first : Node) (n : ℕ) → first ≡ nodeAt width nodes head →
       ahead 0 (walk width nodes count 65536 (first .key) (first .next)) ≡ some n →
@@ -88,14 +88,14 @@ module _ (width : ℕ) (nodes : List ℕ) (count : ℕ) where
       go : (o : Option (List ℕ)) → ahead 0 o ≡ some n →
           accepted (n ∷ [])
           ≡ cond (isNone o) (refused brokenChain) (accepted (length (map (keyAt width nodes) (Option·getD o [])) ∷ []))
-      go none e = let z : _≡_ {A = ℕ} 0 1 = cc in absurd (omega arith)
+      go none e = absurd (Option·none-ne-some n e)
       go (some ns) e = let z : 0 + length ns ≡ n = cc in rw (← z, zero-add, length-map)
 
   -- a walk goes along the next links
   pub walk-linked : (steps last node : ℕ) (ns : List ℕ) → walk width nodes count steps last node ≡ some ns →
       linkedKeys width nodes (length ns) node ≡ map (keyAt width nodes) ns
   unfolding walk linkedKeys
-  walk-linked zero last node ns e = let z : _≡_ {A = ℕ} 0 1 = cc in absurd (omega arith)
+  walk-linked zero last node ns e = absurd (Option·none-ne-some ns e)
   walk-linked (suc steps) last node ns e =
       go (eqb node tail) (ltb node count && ltb last (keyAt width nodes node))
       (walk width nodes count steps (keyAt width nodes node) (nextAt width nodes node))
@@ -110,11 +110,11 @@ module _ (width : ℕ) (nodes : List ℕ) (count : ℕ) where
           cond t (some []) (cond u (Option·map (λ rest. node ∷ rest) onward) none) ≡ some ns →
           linkedKeys width nodes (length ns) node ≡ keys ns
       go true u onward more e = let z : [] ≡ ns = cc in rw (← z)
-      go false true none more e = let z : _≡_ {A = ℕ} 0 1 = cc in absurd (omega arith)
+      go false true none more e = absurd (Option·none-ne-some ns e)
       go false true (some rest) more e =
           let z : node ∷ rest ≡ ns = cc in
           rw (← z) (ap (λ (l : List ℕ). keyAt width nodes node ∷ l) (more rest refl))
-      go false false onward more e = let z : _≡_ {A = ℕ} 0 1 = cc in absurd (omega arith)
+      go false false onward more e = absurd (Option·none-ne-some ns e)
 
   -- as keys are words, more steps than 65,536 find the same
   module _ (words : (node : ℕ) → keyAt width nodes node < 65536) where
@@ -178,7 +178,7 @@ module _ (width : ℕ) (nodes : List ℕ) (count : ℕ) where
             isNone o ≡ false →
             length (keys o) ≡ n →
             linkedKeys width nodes n (nextAt width nodes head) ≡ keys o
-        go none w e c = let z : _≡_ {A = ℕ} 0 1 = cc in absurd (omega arith)
+        go none w e c = absurd (true≢false e)
         go (some ns) w e c =
             rw (← c, length-map) (walk-linked 65536 (keyAt width nodes head) (nextAt width nodes head) ns w)
 
