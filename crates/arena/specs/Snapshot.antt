@@ -15,38 +15,32 @@ abbrev pub isNone : {A : Type 0} → Option A → Bool
 isNone none = true
 isNone (some a) = false
 
-module _ (width : ℕ) (nodes : List ℕ) where
-  -- the keys of so many nodes, from `node` on by next links alone
-  unfoldable pub linkedKeys : ℕ → ℕ → List ℕ
-  linkedKeys zero node = []
-  linkedKeys (suc steps) node = keyAt width nodes node ∷ linkedKeys steps (nextAt width nodes node)
+module _ (width : ℕ) (nodes : List ℕ) (count : ℕ) where
+  -- The nodes from `node` on, up to Tail, which is not looked at; or none, where a link is N or more or a key is not above the last.
+  -- Keys rise and are words, so 65,536 steps are enough for every walk (`Walks.chain-steps`).
+  unfoldable pub walk : ℕ → ℕ → ℕ → Option (List ℕ)
+  walk zero last node = none
+  walk (suc steps) last node =
+      let onward = walk steps (keyAt width nodes node) (nextAt width nodes node) in
+      cond (eqb node tail)
+      (some [])
+      (cond (ltb node count && ltb last (keyAt width nodes node)) (Option·map (λ rest. node ∷ rest) onward) none)
 
-  module _ (count : ℕ) where
-    -- The nodes from `node` on, up to Tail, which is not looked at; or none, where a link is N or more or a key is not above the last.
-    -- Keys rise and are words, so 65,536 steps are enough for every walk (`Walks.chain-steps`).
-    unfoldable pub walk : ℕ → ℕ → ℕ → Option (List ℕ)
-    walk zero last node = none
-    walk (suc steps) last node =
-        let onward = walk steps (keyAt width nodes node) (nextAt width nodes node) in
-        cond (eqb node tail)
-        (some [])
-        (cond (ltb node count && ltb last (keyAt width nodes node)) (Option·map (λ rest. node ∷ rest) onward) none)
+  -- the nodes of the chain between Head and Tail; Head's key is where the rising begins
+  unfoldable pub chain : Option (List ℕ)
+  chain = walk 65536 (keyAt width nodes head) (nextAt width nodes head)
 
-    -- the nodes of the chain between Head and Tail; Head's key is where the rising begins
-    unfoldable pub chain : Option (List ℕ)
-    chain = walk 65536 (keyAt width nodes head) (nextAt width nodes head)
+  -- their keys, in chain order
+  unfoldable pub chainKeys : List ℕ
+  chainKeys = map (keyAt width nodes) (Option·getD chain [])
 
-    -- their keys, in chain order
-    unfoldable pub chainKeys : List ℕ
-    chainKeys = map (keyAt width nodes) (Option·getD chain [])
+  -- a broken chain: 7
+  unfoldable pub chainBroken : Refusal
+  chainBroken = (isNone chain, brokenChain)
 
-    -- a broken chain: 7
-    unfoldable pub chainBroken : Refusal
-    chainBroken = (isNone chain, brokenChain)
-
-    -- the whole chain is judged before the room: 7, 8
-    unfoldable pub chainRefusals : ℕ → List Refusal
-    chainRefusals room = chainBroken ∷ (ltb room (length chainKeys), noRoom) ∷ []
+  -- the whole chain is judged before the room: 7, 8
+  unfoldable pub chainRefusals : ℕ → List Refusal
+  chainRefusals room = chainBroken ∷ (ltb room (length chainKeys), noRoom) ∷ []
 
 -- the keys of an arena's chain
 unfoldable pub keysOf : List ℕ → List ℕ
@@ -65,3 +59,8 @@ snapshotAnswer arena room = replied (snapshotRefusals arena room) (length (keysO
 unfoldable pub snapshotWords : List ℕ → List ℕ → List ℕ
 snapshotWords arena lent =
     written (snapshotRefusals arena (length lent)) lent (keysOf arena ++ drop (length (keysOf arena)) lent)
+
+-- For the pass that copies the keys: the keys of so many nodes, from `node` on by next links alone.
+unfoldable pub linkedKeys : ℕ → List ℕ → ℕ → ℕ → List ℕ
+linkedKeys width nodes zero node = []
+linkedKeys width nodes (suc steps) node = keyAt width nodes node ∷ linkedKeys width nodes steps (nextAt width nodes node)
