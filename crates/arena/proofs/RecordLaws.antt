@@ -13,7 +13,7 @@ use Rattle.arena.specs.Layout.{word, workerWidth, workerFrom}
 use Rattle.arena.specs.Records.{workerWords, workerAt, withWorker}
 use Rattle.arena.specs.Replies.{Refusal, written}
 use Rattle.arena.specs.Start.{startRefusals, startArena}
-use Rattle.arena.proofs.Runs.{sets-before, sets-behind, sets-at}
+use Rattle.arena.proofs.Runs.{sets-outside, sets-at}
 
 -- a place outside the record of a worker
 abbrev pub Outside : ℕ → ℕ → Type 0
@@ -40,7 +40,9 @@ module _ (arena : List ℕ) (worker : ℕ) (w : Worker) where
   -- and nothing else is written
   pub others-stay : (at : ℕ) → Outside worker at → word (withWorker arena worker w) at ≡ word arena at
   unfolding withWorker
-  others-stay at = ⊎-elim (sets-before (workerWords w) arena (workerFrom worker) at) (sets-behind (workerWords w) arena (workerFrom worker) at)
+  others-stay at outside =
+      sets-outside (workerWords w) arena (workerFrom worker) at
+      (λ k h e. ⊎-elim (λ before. omega arith) (λ behind. omega arith) outside)
 
 -- what both outcomes of a judgement have, it has
 written-keeps : (P : List ℕ → Type 0) (rs : List Refusal) (before after : List ℕ) → P before → P after → P (written rs before after)

@@ -39,21 +39,18 @@ pub sets-out : (vs l : List ℕ) (i : ℕ) → length l ≤ i → sets l i vs �
 sets-out [] l i h = refl
 sets-out (v ∷ vs) l i h = rw (set-out l i v h) (sets-out vs l (suc i) (omega arith))
 
--- what stands before a run, behind it, and in it
-pub sets-before : (vs l : List ℕ) (i j : ℕ) → j < i → word (sets l i vs) j ≡ word l j
-sets-before [] l i j h = refl
-sets-before (v ∷ vs) l i j h =
-    sets-before vs (set l i v) (suc i) j (omega arith) ∙ getD-set-other l i j v 0 (λ e. omega arith)
-
-pub sets-behind : (vs l : List ℕ) (i j : ℕ) → i + length vs ≤ j → word (sets l i vs) j ≡ word l j
-sets-behind [] l i j h = refl
-sets-behind (v ∷ vs) l i j h =
-    sets-behind vs (set l i v) (suc i) j (omega arith) ∙ getD-set-other l i j v 0 (λ e. omega arith)
+-- a place outside a run keeps its word, and a place in it has the run's
+pub sets-outside : (vs l : List ℕ) (i j : ℕ) → ((k : ℕ) → k < length vs → j ≡ i + k → ⊥) → word (sets l i vs) j ≡ word l j
+sets-outside [] l i j out = refl
+sets-outside (v ∷ vs) l i j out =
+    sets-outside vs (set l i v) (suc i) j (λ k h e. out (suc k) (omega arith) (omega arith))
+    ∙ getD-set-other l i j v 0 (λ e. out 0 (omega arith) (omega arith))
 
 pub sets-at : (vs l : List ℕ) (i k : ℕ) → k < length vs → i + length vs ≤ length l → word (sets l i vs) (i + k) ≡ word vs k
 sets-at [] l i k h g = absurd (omega arith)
 sets-at (v ∷ vs) l i zero h g =
-    rw add-zero (sets-before vs (set l i v) (suc i) i (omega arith) ∙ getD-set-same l i v 0 (omega arith))
+    rw add-zero
+    (sets-outside vs (set l i v) (suc i) i (λ k h e. omega arith) ∙ getD-set-same l i v 0 (omega arith))
 sets-at (v ∷ vs) l i (suc k) h g =
     rw (add-suc, ← suc-add) (sets-at vs (set l i v) (suc i) k (omega arith) (rw length-set (omega arith)))
 

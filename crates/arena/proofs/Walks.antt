@@ -14,9 +14,9 @@ use borrow.Author.Tests.{eq-eqb, ne-eqb, lt-ltb, le-ltb, ltb-true, not-true, not
 use Rattle.worker.specs.Node.{head, tail}
 use Rattle.worker.specs.declared.Node.{Node}
 use Rattle.arena.specs.Records.{nodeAt, keyAt, nextAt}
-use Rattle.arena.specs.Replies.{Refusal, refused, accepted, brokenChain, noRoom, judged, replied}
+use Rattle.arena.specs.Replies.{refused, accepted, brokenChain, noRoom, judged, replied}
 use Rattle.arena.proofs.Judged.{none-holds, given-values, refused-first, accepted-first}
-use Rattle.arena.specs.Snapshot.{walk, linkedKeys, chain, chainKeys, chainBroken, chainRefusals, isNone}
+use Rattle.arena.specs.Snapshot.{walk, linkedKeys, chain, chainKeys, chainBroken, chainTooLong, chainRefusals, isNone}
 
 -- how many nodes a walk passes, behind some that were passed before
 abbrev pub ahead : ℕ → Option (List ℕ) → Option ℕ
@@ -145,16 +145,13 @@ module _ (width : ℕ) (nodes : List ℕ) (count : ℕ) where
     chain-steps (suc more) =
         rw suc-add (walk-more (more + 65536) (keyAt width nodes head) (nextAt width nodes head) (words head) (omega arith) ∙ chain-steps more)
 
-  tooLong : ℕ → Refusal
-  tooLong room = (ltb room (length (chainKeys width nodes count)), noRoom)
-
   -- what follows of a survey that met a break
   pub keys-broken : {A : Type 0} (room number : ℕ) (values : List ℕ) (refuse : ℕ → A) (accept : A) →
       refused number ≡ replied (chainBroken width nodes count ∷ []) values →
       judged (chainRefusals width nodes count room) refuse accept ≡ refuse number
-  unfolding chainRefusals tooLong
+  unfolding chainRefusals
   keys-broken room number values refuse accept =
-      refused-first (chainBroken width nodes count ∷ []) (tooLong room ∷ []) values refuse accept
+      refused-first (chainBroken width nodes count ∷ []) (chainTooLong width nodes count room ∷ []) values refuse accept
 
   -- what follows of a survey that found n nodes
   module _ (n : ℕ) (found : accepted (n ∷ []) ≡ replied (chainBroken width nodes count ∷ []) (length (chainKeys width nodes count) ∷ [])) where
@@ -188,14 +185,14 @@ module _ (width : ℕ) (nodes : List ℕ) (count : ℕ) where
 
     -- the room decides
     module _ {A : Type 0} (room : ℕ) (refuse : ℕ → A) (accept : A) where
-      roomy : judged (chainRefusals width nodes count room) refuse accept ≡ judged (tooLong room ∷ []) refuse accept
-      unfolding chainRefusals tooLong
-      roomy = accepted-first (chainBroken width nodes count ∷ []) (tooLong room ∷ []) _ refuse accept found
+      roomy : judged (chainRefusals width nodes count room) refuse accept ≡ judged (chainTooLong width nodes count room ∷ []) refuse accept
+      unfolding chainRefusals
+      roomy = accepted-first (chainBroken width nodes count ∷ []) (chainTooLong width nodes count room ∷ []) _ refuse accept found
 
       pub keys-fit : n ≤ room → judged (chainRefusals width nodes count room) refuse accept ≡ accept
-      unfolding tooLong
+      unfolding chainTooLong
       keys-fit h = let k = keys-count in roomy ∙ rw (le-ltb room (length (chainKeys width nodes count)) (omega arith))
 
       pub keys-short : room < n → judged (chainRefusals width nodes count room) refuse accept ≡ refuse noRoom
-      unfolding tooLong
+      unfolding chainTooLong
       keys-short h = let k = keys-count in roomy ∙ rw (lt-ltb room (length (chainKeys width nodes count)) (omega arith))

@@ -38,9 +38,13 @@ module _ (width : ℕ) (nodes : List ℕ) (count : ℕ) where
   unfoldable pub chainBroken : Refusal
   chainBroken = (isNone chain, brokenChain)
 
-  -- the whole chain is judged before the room: 7, 8
+  -- more keys than room: 8
+  unfoldable pub chainTooLong : ℕ → Refusal
+  chainTooLong room = (ltb room (length chainKeys), noRoom)
+
+  -- the whole chain is judged before the room
   unfoldable pub chainRefusals : ℕ → List Refusal
-  chainRefusals room = chainBroken ∷ (ltb room (length chainKeys), noRoom) ∷ []
+  chainRefusals room = chainBroken ∷ chainTooLong room ∷ []
 
 -- the keys of an arena's chain
 unfoldable pub keysOf : List ℕ → List ℕ
