@@ -51,6 +51,16 @@ given-values rs values {given} e =
     let same : accepted given ≡ accepted values = e ∙ judged-accepted rs values refused (accepted values) e in
     cc
 
+-- what every outcome has, the judgement has
+pub judged-keeps : {A : Type 0} (P : A → Type 0) (rs : List Refusal) (refuse : ℕ → A) (accept : A) →
+    ((number : ℕ) → P (refuse number)) → P accept → P (judged rs refuse accept)
+judged-keeps P [] refuse accept p q = q
+judged-keeps {A} P (r ∷ rs) refuse accept p q = go (r .0) (judged rs refuse accept) (judged-keeps P rs refuse accept p q)
+  where
+    go : (t : Bool) (others : A) → P others → P (cond t (refuse (r .1)) others)
+    go true others more = p (r .1)
+    go false others more = more
+
 -- a list of refusals behind another
 judged-append : {A : Type 0} (rs ss : List Refusal) (refuse : ℕ → A) (accept : A) →
     judged (rs ++ ss) refuse accept ≡ judged rs refuse (judged ss refuse accept)

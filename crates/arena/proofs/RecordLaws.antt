@@ -2,8 +2,7 @@
 use Prim.Native.Nat.{ℕ, _+_, _≤_, _<_}
 use mathlib.Core.Path.{_≡_, refl}
 use mathlib.Core.Logic.{_⊎_, ⊎-elim}
-use mathlib.Core.Bool.{Bool, true, false, cond}
-use mathlib.Core.List.{List, [], _∷_}
+use mathlib.Core.List.{List}
 use native.Mathlib.Omega.{arith}
 use lib.ListN.{length}
 use lib.Seq.{sets}
@@ -11,8 +10,8 @@ use Rattle.worker.specs.declared.Worker.{Worker}
 use Rattle.worker.specs.Worker.{startedWorker}
 use Rattle.arena.specs.Layout.{word, workerWidth, workerFrom}
 use Rattle.arena.specs.Records.{workerWords, workerAt, withWorker}
-use Rattle.arena.specs.Replies.{Refusal, written}
 use Rattle.arena.specs.Start.{startRefusals, startArena}
+use Rattle.arena.proofs.Judged.{judged-keeps}
 use Rattle.arena.proofs.Runs.{sets-outside, sets-at}
 
 -- a place outside the record of a worker
@@ -44,20 +43,11 @@ module _ (arena : List ℕ) (worker : ℕ) (w : Worker) where
       sets-outside (workerWords w) arena (workerFrom worker) at
       (λ k h e. ⊎-elim (λ before. omega arith) (λ behind. omega arith) outside)
 
--- what both outcomes of a judgement have, it has
-written-keeps : (P : List ℕ → Type 0) (rs : List Refusal) (before after : List ℕ) → P before → P after → P (written rs before after)
-written-keeps P [] before after p q = q
-written-keeps P (r ∷ rs) before after p q = go (r .0) (written-keeps P rs before after p q)
-  where
-    go : (t : Bool) → P (written rs before after) → P (cond t before (written rs before after))
-    go true more = p
-    go false more = more
-
 -- a start writes the worker's record and nothing else
 pub start-writes : (arena : List ℕ) (worker operation key at : ℕ) → Outside worker at →
     word (startArena arena worker operation key) at ≡ word arena at
 unfolding startArena
 start-writes arena worker operation key at outside =
-    written-keeps (λ (words : List ℕ). word words at ≡ word arena at) (startRefusals arena worker operation key) arena
-    (withWorker arena worker (startedWorker operation key)) refl
+    judged-keeps (λ (words : List ℕ). word words at ≡ word arena at) (startRefusals arena worker operation key)
+    (λ number. arena) (withWorker arena worker (startedWorker operation key)) (λ number. refl)
     (others-stay arena worker (startedWorker operation key) at outside)

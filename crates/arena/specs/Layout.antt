@@ -21,7 +21,7 @@ workerWidth = 8
 abbrev pub layoutNumber : ℕ
 layoutNumber = 1
 
--- words of a node record, by layout number: 4 in layout 1
+-- words of a node record, by layout number: 4 in layout 1, and 0 where there is no such layout
 unfoldable pub nodeWidth : ℕ → ℕ
 nodeWidth layout = cond (eqb layout layoutNumber) 4 0
 

@@ -30,29 +30,11 @@ within low high n = leb low n && leb n high
 abbrev pub isCall : ℕ → ℕ → Bool
 isCall operation key = within 1 3 operation && within 1 65534 key
 
--- idle: 0, 0, 0, three times 65,535, 0, 0
-abbrev pub idleWorker : Worker
-idleWorker =
+-- a record that has met no node yet: stage, operation, key, none three times, 0, 0
+abbrev pub newWorker : ℕ → ℕ → ℕ → Worker
+newWorker stage operation key =
     record {
-      stage = idleStage;
-      operation = 0;
-      key = 0;
-      pred = noNode;
-      curr = noNode;
-      spare = noNode;
-      answer = 0;
-      reserved = 0;
-    }
-
--- where a call begins: stage 1 (add, remove) or 22 (contains)
-abbrev pub firstStage : ℕ → ℕ
-firstStage operation = cond (eqb operation contains) 22 1
-
--- a start writes: its first stage, operation, key, none three times, 0, 0
-abbrev pub startedWorker : ℕ → ℕ → Worker
-startedWorker operation key =
-    record {
-      stage = firstStage operation;
+      stage = stage;
       operation = operation;
       key = key;
       pred = noNode;
@@ -61,3 +43,15 @@ startedWorker operation key =
       answer = 0;
       reserved = 0;
     }
+
+-- idle: 0, 0, 0, three times 65,535, 0, 0
+abbrev pub idleWorker : Worker
+idleWorker = newWorker idleStage 0 0
+
+-- where a call begins: stage 1 (add, remove) or 22 (contains)
+abbrev pub firstStage : ℕ → ℕ
+firstStage operation = cond (eqb operation contains) 22 1
+
+-- a start writes: its first stage, operation, key, none three times, 0, 0
+abbrev pub startedWorker : ℕ → ℕ → Worker
+startedWorker operation key = newWorker (firstStage operation) operation key

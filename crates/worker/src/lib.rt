@@ -1,7 +1,7 @@
 // The records of the lazy list as values: a node and a worker. Nothing here knows of an arena's words.
 ghost use mathlib.Core.Path.{_≡_};
 ghost use Rattle.worker.specs.Node.{headNode, tailNode, unusedNode};
-ghost use Rattle.worker.specs.Worker.{isCall, idleWorker, firstStage, startedWorker};
+ghost use Rattle.worker.specs.Worker.{isCall, newWorker, idleWorker, firstStage, startedWorker};
 
 // Document 01's node record.
 pub struct Node {
@@ -89,27 +89,12 @@ impl Worker {
 
     pub const LAST_STAGE: u16 = 25;
 
-    pub fn idle() -> Self
-        ensures { λ r. ⌜ r ≡ idleWorker ⌝ }
+    // A worker that has met no node yet.
+    fn new(stage: u16, operation: u16, key: u16) -> Self
+        ensures { λ r. ⌜ r ≡ newWorker stage operation key ⌝ }
     {
         Worker {
-            stage: Self::IDLE_STAGE,
-            operation: 0,
-            key: 0,
-            pred: Node::NONE,
-            curr: Node::NONE,
-            spare: Node::NONE,
-            answer: 0,
-            reserved: 0,
-        }
-    }
-
-    // A worker at the beginning of a call.
-    pub fn started(operation: u16, key: u16) -> Self
-        ensures { λ r. ⌜ r ≡ startedWorker operation key ⌝ }
-    {
-        Worker {
-            stage: first_stage(operation),
+            stage,
             operation,
             key,
             pred: Node::NONE,
@@ -118,6 +103,19 @@ impl Worker {
             answer: 0,
             reserved: 0,
         }
+    }
+
+    pub fn idle() -> Self
+        ensures { λ r. ⌜ r ≡ idleWorker ⌝ }
+    {
+        Self::new(Self::IDLE_STAGE, 0, 0)
+    }
+
+    // A worker at the beginning of a call.
+    pub fn started(operation: u16, key: u16) -> Self
+        ensures { λ r. ⌜ r ≡ startedWorker operation key ⌝ }
+    {
+        Self::new(first_stage(operation), operation, key)
     }
 }
 
