@@ -4,7 +4,8 @@ use mathlib.Core.Path.{_≡_, refl, sym, ap, _∙_}
 use mathlib.Core.List.{List, [], _∷_, _++_}
 use mathlib.Core.Bool.{Bool, true, false, cond}
 use native.Mathlib.Omega.{arith}
-use Rattle.arena.specs.Replies.{Refusal, Reply, refused, accepted, judged, replied}
+use Rattle.worker.specs.Refusals.{Refusal, judged}
+use Rattle.arena.specs.Replies.{Reply, refused, accepted, replied}
 
 settled : {A : Type 0} → Reply → (ℕ → A) → A → A
 settled (refused number) refuse accept = refuse number

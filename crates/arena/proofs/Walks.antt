@@ -14,7 +14,8 @@ use borrow.Author.Tests.{eq-eqb, ne-eqb, lt-ltb, le-ltb, ltb-true, not-true, not
 use Rattle.worker.specs.Node.{head, tail}
 use Rattle.worker.specs.declared.Node.{Node}
 use Rattle.arena.specs.Records.{nodeAt, keyAt, nextAt}
-use Rattle.arena.specs.Replies.{refused, accepted, brokenChain, noRoom, judged, replied}
+use Rattle.worker.specs.Refusals.{brokenChain, noRoom, judged}
+use Rattle.arena.specs.Replies.{refused, accepted, replied}
 use Rattle.arena.proofs.Judged.{none-holds, given-values, refused-first, accepted-first}
 use Rattle.arena.specs.Snapshot.{walk, linkedKeys, chain, chainKeys, chainBroken, chainTooLong, chainRefusals, isNone}
 

@@ -5,7 +5,7 @@ use mathlib.Core.Bool.{Bool, true, not, _&&_, _||_}
 use lib.ListN.{length}
 use lib.Dec.{ltb, eqb}
 use Rattle.arena.specs.Layout.{word, headerWidth, layoutNumber, goodCounts, headerWords, layoutOf, workersOf, nodesOf, totalOf}
-use Rattle.arena.specs.Replies.{Refusal, shortArena, oddHeader}
+use Rattle.worker.specs.Refusals.{Refusal, shortArena, oddHeader}
 
 -- the words from a place on are these
 abbrev pub agrees : List ℕ → ℕ → List ℕ → Bool

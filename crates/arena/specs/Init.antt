@@ -8,7 +8,8 @@ use Rattle.worker.specs.Node.{headNode, tailNode, unusedNode}
 use Rattle.worker.specs.Worker.{idleWorker}
 use Rattle.arena.specs.Layout.{layoutNumber, goodCounts, headerWords, total}
 use Rattle.arena.specs.Records.{workerWords, nodeWords}
-use Rattle.arena.specs.Replies.{Refusal, Reply, badCounts, shortArena, replied, written}
+use Rattle.worker.specs.Refusals.{Refusal, badCounts, shortArena}
+use Rattle.arena.specs.Replies.{Reply, replied, written}
 
 -- the worker records of a fresh arena: idle
 unfoldable pub freshWorkers : ℕ → List ℕ

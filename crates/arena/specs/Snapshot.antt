@@ -8,7 +8,8 @@ use lib.Dec.{ltb, eqb}
 use Rattle.worker.specs.Node.{head, tail}
 use Rattle.arena.specs.Layout.{nodesOf, layoutOf, nodeWidth, nodePart}
 use Rattle.arena.specs.Records.{keyAt, nextAt}
-use Rattle.arena.specs.Replies.{Refusal, Reply, brokenChain, noRoom, replied, written}
+use Rattle.worker.specs.Refusals.{Refusal, brokenChain, noRoom}
+use Rattle.arena.specs.Replies.{Reply, replied, written}
 use Rattle.arena.specs.Header.{headerRefusals}
 
 abbrev pub isNone : {A : Type 0} → Option A → Bool

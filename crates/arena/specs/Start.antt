@@ -6,7 +6,8 @@ use lib.Dec.{leb, ltb, eqb}
 use Rattle.worker.specs.Worker.{isCall, idleStage, lastStage, startedWorker}
 use Rattle.arena.specs.Layout.{workersOf}
 use Rattle.arena.specs.Records.{workerAt, withWorker}
-use Rattle.arena.specs.Replies.{Refusal, Reply, noSuchWorker, brokenRecord, busy, badCall, replied, written}
+use Rattle.worker.specs.Refusals.{Refusal, noSuchWorker, brokenRecord, busy, badCall}
+use Rattle.arena.specs.Replies.{Reply, replied, written}
 use Rattle.arena.specs.Header.{headerRefusals}
 
 -- no such worker: 3; a stage above 25: 6; a stage not 0: 4; no call: 5

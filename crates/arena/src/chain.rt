@@ -9,9 +9,9 @@ ghost use Rattle.arena.specs.Replies.{listingReply, replied, written};
 ghost use Rattle.arena.specs.Snapshot.{chainBroken, chainKeys, chainRefusals, linkedKeys};
 use crate::Listing;
 use crate::records::read_node;
-use crate::refusal;
 use crate::words::put;
 use worker::Node;
+use worker::refusal;
 
 // Walks from Head to Tail and counts the nodes between: the snapshot, were there room for any number of keys.
 fn survey(nodes: &[u16], width: u16, count: u16) -> Listing

@@ -15,10 +15,10 @@ use crate::layout;
 use crate::records::node_words;
 use crate::records::worker_words;
 use crate::records::write_node;
-use crate::refusal;
 use crate::words::write;
 use worker::Node;
 use worker::Worker;
+use worker::refusal;
 
 pub(crate) fn init_verdict(arena: &[u16], workers: u16, nodes: u16) -> Verdict
     ensures { λ r. ⌜ verdictReply r ≡ replied (initRefusals (now (arena .entry)) workers nodes) [] ⌝ }

@@ -5,9 +5,9 @@ ghost use Rattle.arena.specs.Replies.{verdictReply, replied};
 ghost use Rattle.arena.specs.Header.{isHeader, headerRefusals};
 use crate::Verdict;
 use crate::layout;
-use crate::refusal;
 use crate::words::agree;
 use crate::words::word;
+use worker::refusal;
 
 pub fn header_verdict(arena: &[u16]) -> Verdict
     ensures { λ r. ⌜ verdictReply r ≡ replied (headerRefusals (now (arena .entry))) [] ⌝ }

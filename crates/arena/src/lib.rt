@@ -7,13 +7,13 @@ ghost use Rattle.arena.specs.Init.{initAnswer, initArena};
 ghost use Rattle.arena.specs.Start.{callRefusals, startRefusals, startAnswer, startArena};
 ghost use Rattle.arena.specs.Snapshot.{snapshotAnswer, snapshotWords};
 use worker::Worker;
+use worker::refusal;
 
 mod chain;
 mod fresh;
 mod header;
 pub mod layout;
 pub mod records;
-pub mod refusal;
 pub mod words;
 
 pub use header::header_verdict;

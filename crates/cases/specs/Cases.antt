@@ -5,7 +5,8 @@ use mathlib.Core.List.{List, [], _∷_}
 use lib.ListN.{replicate}
 use Rattle.worker.specs.Worker.{add, contains}
 use Rattle.arena.specs.Layout.{word}
-use Rattle.arena.specs.Replies.{Reply, refused, accepted, shortArena, busy, badCall, badCounts}
+use Rattle.worker.specs.Refusals.{shortArena, busy, badCall, badCounts}
+use Rattle.arena.specs.Replies.{Reply, refused, accepted}
 use Rattle.arena.specs.Init.{initAnswer, initArena}
 use Rattle.arena.specs.Start.{startAnswer, startArena}
 

@@ -1,7 +1,20 @@
-// The records of the lazy list as values: a node and a worker. Nothing here knows of an arena's words.
+// A worker of the lazy list as a value: the records of nodes and workers, and a worker's turn. Nothing here knows of an arena's words.
 ghost use mathlib.Core.Path.{_≡_};
 ghost use Rattle.worker.specs.Node.{headNode, tailNode, unusedNode};
 ghost use Rattle.worker.specs.Worker.{isCall, newWorker, idleWorker, firstStage, startedWorker};
+
+pub mod refusal;
+mod report;
+mod stages;
+mod turn;
+
+pub use report::Answer;
+pub use report::Effect;
+pub use report::Free;
+pub use report::Report;
+pub use report::Seen;
+pub use report::Step;
+pub use report::Turned;
 
 // Document 01's node record.
 pub struct Node {

@@ -1,0 +1,32 @@
+-- Laws that several proofs cite.
+use Prim.Native.Nat.{ℕ, zero, suc, _≤_, _<_, zero-le}
+use mathlib.Core.Path.{_≡_, refl}
+use mathlib.Core.Bool.{Bool, true, false, _&&_}
+use native.Mathlib.Omega.{arith}
+use lib.Dec.{leb}
+use borrow.Author.Tests.{le-leb, lt-leb}
+use Rattle.worker.specs.Worker.{within}
+
+-- what the default arm of a match on 0, 1, .., k - 1 knows: the number is none of these
+abbrev pub NoneBelow : ℕ → ℕ → Type 0
+NoneBelow zero x = Unit {0}
+NoneBelow (suc k) x = NoneBelow k x × (x ≡ k → ⊥)
+
+pub at-least : (k x : ℕ) → NoneBelow k x → k ≤ x
+at-least zero x h = zero-le
+at-least (suc k) x h = let l = at-least k x (h .0) in omega (arith, l, h .1)
+
+-- a range's test, decided by the bounds
+module _ (low high n : ℕ) where
+  pub in-range : low ≤ n → n ≤ high → within low high n ≡ true
+  in-range h k = rw (le-leb low n h, le-leb n high k)
+
+  pub below-range : n < low → within low high n ≡ false
+  below-range h = rw (lt-leb low n h)
+
+  pub above-range : high < n → within low high n ≡ false
+  above-range h = rw (lt-leb n high h) (and-false (leb low n))
+    where
+      and-false : (t : Bool) → t && false ≡ false
+      and-false true = refl
+      and-false false = refl

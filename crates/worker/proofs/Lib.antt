@@ -1,0 +1,2 @@
+-- Laws of a worker's turn.
+pub mod Laws
