@@ -1,8 +1,10 @@
--- What the tests on counts say of the numbers, and how large an arena gets.
-use Prim.Native.Nat.{ℕ, _≤_}
+-- What the tests on counts say of the numbers, and how large offsets get.
+use Prim.Native.Nat.{ℕ, _*_, _≤_, _<_, _^_}
 use mathlib.Core.Path.{_≡_}
 use mathlib.Core.Bool.{true, and-eq-true-iff}
 use native.Mathlib.Omega.{arith}
+use native.Mathlib.Nat.{lt-of-le-of-lt, le-of-lt, mul-le-mul-left, mul-lt-mul-of-pos-right}
+use lib.Pow.{pow-pos}
 use lib.Dec.{leb}
 use borrow.Author.Tests.{leb-true}
 use Rattle.worker.specs.Worker.{within}
@@ -30,3 +32,7 @@ counts workers nodes e =
 pub total-fits : (workers nodes : ℕ) → Counts workers nodes → total layoutNumber workers nodes ≤ 4168
 unfolding nodeWidth
 total-fits workers nodes k = omega arith
+
+-- the product of two 16-bit numbers fits 32 bits
+pub product-fits : {a b : ℕ} → a < 2 ^ 16 → b < 2 ^ 16 → a * b < 2 ^ 32
+product-fits {a} {b} ha hb = lt-of-le-of-lt (mul-le-mul-left a (le-of-lt hb)) (mul-lt-mul-of-pos-right ha (pow-pos 16))

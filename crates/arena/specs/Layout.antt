@@ -106,3 +106,7 @@ totalOf arena = word arena 5
 -- the node records: the part from the node offset to the total
 unfoldable pub nodePart : List ℕ → List ℕ
 nodePart arena = take (totalOf arena - nodesFromOf arena) (drop (nodesFromOf arena) arena)
+
+-- where a field of a node stands in an arena
+unfoldable pub nodeFrom : List ℕ → ℕ → ℕ → ℕ
+nodeFrom arena node field = nodesFromOf arena + slot (nodeWidth (layoutOf arena)) node field

@@ -3,7 +3,7 @@ ghost use Prim.Native.Nat.{_+_};
 ghost use mathlib.Core.Path.{_≡_};
 ghost use lib.Seq.{sets};
 ghost use Rattle.arena.specs.Records.{workerWords, workerAt, withWorker, nodeWords, nodeAt};
-ghost use Rattle.arena.specs.Layout.{word, workerFrom, slot};
+ghost use Rattle.arena.specs.Layout.{word, workerFrom, slot, nodeFrom};
 use crate::layout;
 use crate::words::word;
 use crate::words::write;
@@ -66,6 +66,14 @@ pub fn write_node(words: &mut [u16], at: usize, node: Node)
 {
     let values = node_words(node);
     write(words, at, &values);
+}
+
+// Where a field of a node stands in an arena.
+pub fn node_from(arena: &[u16], node: u16, field: u16) -> usize
+    ensures { λ r. ⌜ r ≡ nodeFrom (now (arena .entry)) node field ⌝ }
+{
+    let width = layout::node_width(word(arena, layout::LAYOUT_AT));
+    (word(arena, layout::NODES_FROM_AT) as usize) + layout::slot(width, node, field)
 }
 
 // A field of a node, of the arena's part that holds the node records.

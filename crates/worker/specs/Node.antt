@@ -12,13 +12,17 @@ tail = 1
 abbrev pub noNode : ℕ
 noNode = 65535
 
--- Head's key is 0 and its next 1, Tail's key 65,535 and its next 1; marks and owners are 0
+-- a node that nobody has marked or owns
+abbrev pub newNode : ℕ → ℕ → Node
+newNode key next = record { key = key; next = next; mark = 0; owner = 0 }
+
+-- Head's key is 0 and its next 1, Tail's key 65,535 and its next 1
 abbrev pub headNode : Node
-headNode = record { key = 0; next = tail; mark = 0; owner = 0 }
+headNode = newNode 0 tail
 
 abbrev pub tailNode : Node
-tailNode = record { key = 65535; next = tail; mark = 0; owner = 0 }
+tailNode = newNode 65535 tail
 
 -- all other nodes of a fresh arena: four zeros
 abbrev pub unusedNode : Node
-unusedNode = record { key = 0; next = 0; mark = 0; owner = 0 }
+unusedNode = newNode 0 0

@@ -1,6 +1,6 @@
 // A worker of the lazy list as a value: the records of nodes and workers, and a worker's turn. Nothing here knows of an arena's words.
 ghost use mathlib.Core.Path.{_≡_};
-ghost use Rattle.worker.specs.Node.{headNode, tailNode, unusedNode};
+ghost use Rattle.worker.specs.Node.{newNode, headNode, tailNode, unusedNode};
 ghost use Rattle.worker.specs.Worker.{isCall, newWorker, idleWorker, firstStage, startedWorker};
 
 pub mod refusal;
@@ -39,37 +39,34 @@ impl Node {
 
     pub const TAIL_KEY: u16 = 65535;
 
-    pub fn head() -> Self
-        ensures { λ r. ⌜ r ≡ headNode ⌝ }
+    // A node that nobody has marked or owns.
+    pub fn new(key: u16, next: u16) -> Self
+        ensures { λ r. ⌜ r ≡ newNode key next ⌝ }
     {
         Node {
-            key: Self::HEAD_KEY,
-            next: Self::TAIL,
+            key,
+            next,
             mark: 0,
             owner: 0,
         }
+    }
+
+    pub fn head() -> Self
+        ensures { λ r. ⌜ r ≡ headNode ⌝ }
+    {
+        Self::new(Self::HEAD_KEY, Self::TAIL)
     }
 
     pub fn tail() -> Self
         ensures { λ r. ⌜ r ≡ tailNode ⌝ }
     {
-        Node {
-            key: Self::TAIL_KEY,
-            next: Self::TAIL,
-            mark: 0,
-            owner: 0,
-        }
+        Self::new(Self::TAIL_KEY, Self::TAIL)
     }
 
     pub fn unused() -> Self
         ensures { λ r. ⌜ r ≡ unusedNode ⌝ }
     {
-        Node {
-            key: 0,
-            next: 0,
-            mark: 0,
-            owner: 0,
-        }
+        Self::new(0, 0)
     }
 }
 

@@ -1,0 +1,4 @@
+-- The lazy list on an arena: which nodes are free, and a worker's turn.
+pub mod Free
+pub mod Row
+pub mod Turn

@@ -1,0 +1,131 @@
+// The lazy list on an arena: a worker's turn.
+ghost use mathlib.Core.Path.{_≡_};
+ghost use mathlib.Core.List.{[]};
+ghost use Prim.Native.Nat.{_≤_};
+ghost use Rattle.arena.specs.Layout.{workersOf};
+ghost use Rattle.arena.specs.Records.{workerAt, nodeAt};
+ghost use Rattle.arena.specs.Replies.{replied, accepted};
+ghost use Rattle.arena.specs.Header.{headerRefusals};
+ghost use Rattle.lazy.specs.Turn.{outcomeReply, seenOf, seenBy, turnOn, withEffect, turnAnswer, turnArena};
+use arena::Verdict;
+use arena::layout;
+use arena::records;
+use arena::words;
+use worker::Effect;
+use worker::Free;
+use worker::Node;
+use worker::Report;
+use worker::Seen;
+use worker::Turned;
+use worker::Worker;
+use worker::refusal;
+
+mod free;
+
+// What a turn answers.
+pub enum Outcome {
+    Reported(Report),
+    Refused(u16),
+}
+
+// Gives a worker a turn.
+pub fn turn(arena: &mut [u16], worker: u16) -> Outcome
+    ensures answer { λ r. ⌜ outcomeReply r ≡ turnAnswer (now (arena .entry)) worker ⌝ }
+    ensures words { λ _. ⌜ now (arena .exit) ≡ turnArena (now (arena .entry)) worker ⌝ }
+{
+    match turned(arena, worker) {
+        Turned::Refused(number) => Outcome::Refused(number),
+        Turned::Done(step) => {
+            let effect = step.effect;
+            let next = step.worker;
+            let report = step.report;
+            apply(arena, effect);
+            records::write_worker(arena, worker, next);
+            Outcome::Reported(report)
+        }
+    }
+}
+
+// What the turn comes to, with nothing written yet.
+fn turned(arena: &[u16], worker: u16) -> Turned
+    ensures { λ r. ⌜ r ≡ turnOn (now (arena .entry)) worker ⌝ }
+{
+    if let Verdict::Refused(number) = arena::header_verdict(arena) {
+        return Turned::Refused(number);
+    }
+    if words::word(arena, layout::WORKERS_AT) <= worker {
+        return Turned::Refused(refusal::NO_SUCH_WORKER);
+    }
+    let state = records::read_worker(arena, worker);
+    let seen = see(arena, state);
+    state.turn(worker + 1, seen)
+}
+
+// What the turn of a worker sees.
+fn see(arena: &[u16], state: Worker) -> Seen
+    requires { ⌜ accepted [] ≡ replied (headerRefusals (now arena)) [] ⌝ }
+    ensures { λ r. ⌜ r ≡ seenBy (now (arena .entry)) state ⌝ }
+{
+    let from = words::word(arena, layout::NODES_FROM_AT) as usize;
+    let total = words::word(arena, layout::TOTAL_AT) as usize;
+    let width = layout::node_width(words::word(arena, layout::LAYOUT_AT));
+    let count = words::word(arena, layout::NODES_AT);
+    look(arena, &arena[from..total], width, count, state)
+}
+
+// The node records are handed on as their part of the arena. Only the stage that takes a free node looks for one.
+fn look(arena: &[u16], nodes: &[u16], width: u16, count: u16, state: Worker) -> Seen
+    requires { ⌜ count ≤ 1024 ⌝ }
+    ensures { λ r. ⌜ r ≡ seenOf (workerAt (now (arena .entry))) (workersOf (now (arena .entry))) (nodeAt width (now (nodes .entry))) count state ⌝ }
+{
+    let pred = records::read_node(nodes, width, state.pred);
+    let curr = records::read_node(nodes, width, state.curr);
+    if state.stage == 14 {
+        let free = free::find_free(arena, nodes, width, count);
+        return Seen {
+            count,
+            pred,
+            curr,
+            free,
+        };
+    }
+    Seen {
+        count,
+        pred,
+        curr,
+        free: Free::None,
+    }
+}
+
+// The one place where a turn writes to the nodes.
+fn apply(arena: &mut [u16], effect: Effect)
+    ensures { λ _. ⌜ now (arena .exit) ≡ withEffect (now (arena .entry)) effect ⌝ }
+{
+    match effect {
+        Effect::Nothing => {}
+        Effect::SetOwner(node, owner) => {
+            words::put(
+                arena,
+                records::node_from(arena, node, layout::NODE_OWNER),
+                owner,
+            )
+        }
+        Effect::SetNext(node, next) => {
+            words::put(
+                arena,
+                records::node_from(arena, node, layout::NODE_NEXT),
+                next,
+            )
+        }
+        Effect::SetMark(node) => {
+            words::put(arena, records::node_from(arena, node, layout::NODE_MARK), 1)
+        }
+        Effect::Fill(node, key, next) => {
+            records::write_node(
+                arena,
+                records::node_from(arena, node, layout::NODE_KEY),
+                Node::new(key, next),
+            )
+        }
+    }
+}
