@@ -6,3 +6,4 @@ pub mod FreshLaws
 pub mod Walks
 pub mod HeaderLaws
 pub mod RecordLaws
+pub mod Slots

@@ -1,7 +1,7 @@
 -- Reached is what some run of links leads to, of any length; and the lowest free node is free, with no free node below it.
 use Prim.Native.Nat.{ℕ, zero, suc, _+_, _<_, _≤_}
 use mathlib.Core.Path.{_≡_, refl}
-use mathlib.Core.Logic.{⊎-elim}
+use mathlib.Core.Logic.{_↔_, ⊎-elim}
 use mathlib.Core.List.{List, [], _∷_, List·Memᴰ, List·Memᴰ·head, List·Memᴰ·tail}
 use mathlib.Core.Bool.{true, false}
 use mathlib.Mathlib.Data.Bool.Basic.{dichotomy, or-inl, or-inr, and-elim-left, and-elim-right}
@@ -12,7 +12,7 @@ use lib.ListN.{replicate, length-replicate}
 use lib.Dec.{ltb}
 use borrow.Author.Tests.{eqb-true, ne-eqb, ltb-true}
 use Rattle.worker.specs.declared.report.Free.the-variants as free
-use Rattle.lazy.specs.Free.{Run, here, on, leads, reached, lowestFrom, lowestFree}
+use Rattle.lazy.specs.Free.{Run, here, on, Reached, leads, reached, lowestFrom, lowestFree}
 use Rattle.lazy.proofs.Rows.{missing-at-most}
 use Rattle.lazy.proofs.ShortRuns.{outside-none, outside-leads}
 
@@ -36,9 +36,8 @@ module _ (next : ℕ → ℕ) (count : ℕ) where
             (leads-run links (next root) node (and-elim-right (ltb root count) _ onward))
       ]
 
-  -- from one of the roots there is a run to a reached node
-  pub reached-run : (roots : List ℕ) (node : ℕ) → reached next count roots node ≡ true →
-      (root : ℕ) × List·Memᴰ root roots × Run next count root node
+  -- where the test says so, some run leads to the node from a root
+  reached-run : (roots : List ℕ) (node : ℕ) → reached next count roots node ≡ true → Reached next count roots node
   unfolding reached
   reached-run [] node e = let z : _≡_ {A = ℕ} 0 1 = cc in absurd (omega arith)
   reached-run (root ∷ roots) node e =
@@ -47,12 +46,15 @@ module _ (next : ℕ → ℕ) (count : ℕ) where
       (λ first. (root, List·Memᴰ·head refl, leads-run count root node first))
       (dichotomy (leads next count count root node))
 
-  -- a node is reached where there is a run to it from one of the roots
-  pub run-reached : {roots : List ℕ} {root node : ℕ} → List·Memᴰ root roots → Run next count root node → node < count →
+  run-reached : {roots : List ℕ} {root node : ℕ} → List·Memᴰ root roots → Run next count root node → node < count →
       reached next count roots node ≡ true
   unfolding reached
   run-reached {node} (List·Memᴰ·head {x} same) run h = or-inl (leads next count count x node) _ (rw same at (run-leads run h))
   run-reached {node} (List·Memᴰ·tail {x} later) run h = or-inr (leads next count count x node) _ (run-reached later run h)
+
+  -- the test is document 01's: a run of any length
+  pub reached-exact : (roots : List ℕ) (node : ℕ) → node < count → (reached next count roots node ≡ true) ↔ Reached next count roots node
+  reached-exact roots node h = (reached-run roots node, λ some. run-reached (some .1) (some .2) h)
 
   module _ (roots : List ℕ) where
     found-from : (left from : ℕ) {node : ℕ} → lowestFrom next count roots left from ≡ free.Node node →
@@ -87,16 +89,19 @@ module _ (next : ℕ → ℕ) (count : ℕ) where
         ])
         (dichotomy (reached next count roots from))
 
-    -- the lowest free node is one of the nodes, no root leads to it, and roots lead to every node below it
+    -- the lowest free node is one of the nodes, no run leads to it, and some run leads to every node below it
     pub lowest-found : {node : ℕ} → lowestFree next count roots ≡ free.Node node →
-        (node < count) × (reached next count roots node ≡ false)
-        × ((lower : ℕ) → lower < node → reached next count roots lower ≡ true)
+        (node < count) × (Reached next count roots node → ⊥)
+        × ((lower : ℕ) → lower < node → Reached next count roots lower)
     unfolding lowestFree
-    lowest-found e =
-        let found = found-from count 0 e in
-        (omega arith, found .2, λ lower h. found .3 lower (omega arith) h)
+    lowest-found {node} e =
+        let found = found-from count 0 e in (
+          omega arith,
+          λ some. let z : _≡_ {A = ℕ} 0 1 = cc (found .2, run-reached (some .1) (some .2) (omega arith)) in omega arith,
+          λ lower h. reached-run roots lower (found .3 lower (omega arith) h),
+        )
 
-    -- where there is none, every node is reached
-    pub lowest-none : lowestFree next count roots ≡ free.None → (node : ℕ) → node < count → reached next count roots node ≡ true
+    -- where there is none, some run leads to every node
+    pub lowest-none : lowestFree next count roots ≡ free.None → (node : ℕ) → node < count → Reached next count roots node
     unfolding lowestFree
-    lowest-none e node h = none-from count 0 e node (omega arith) (omega arith)
+    lowest-none e node h = reached-run roots node (none-from count 0 e node (omega arith) (omega arith))

@@ -1,6 +1,7 @@
--- Proofs of the search for a free node.
+-- Laws of the search for a free node and of a turn on an arena, and the lemmas of their proofs.
 pub mod Rows
 pub mod ShortRuns
 pub mod FreeLaws
 pub mod Walk
 pub mod Search
+pub mod TurnLaws

@@ -1,6 +1,6 @@
 -- Which nodes are free, and the lowest of them (document 01: the hunt).
 use Prim.Native.Nat.{ℕ, zero, suc, _<_}
-use mathlib.Core.List.{List, [], _∷_}
+use mathlib.Core.List.{List, [], _∷_, List·Memᴰ}
 use mathlib.Core.Bool.{Bool, false, cond, _&&_, _||_}
 use lib.Dec.{ltb, eqb}
 use Rattle.worker.specs.Node.{head, tail}
@@ -20,13 +20,17 @@ module _ (next : ℕ → ℕ) (count : ℕ) where
     here : {node : ℕ} → Run node node
     on : {from node : ℕ} → from < count → Run (next from) node → Run from node
 
+  -- some run leads to a node from one of the roots; where none does, the node is free
+  abbrev pub Reached : List ℕ → ℕ → Type 0
+  Reached roots node = (root : ℕ) × List·Memᴰ root roots × Run root node
+
   -- The same, tested: a run of at most so many links. Longer runs than N reach nothing more (`FreeLaws.run-leads`).
   unfoldable pub leads : ℕ → ℕ → ℕ → Bool
   leads zero from node = eqb from node
   leads (suc links) from node =
       let onward = leads links (next from) node in eqb from node || (ltb from count && onward)
 
-  -- one of the roots leads to a node; where none does, it is free
+  -- reached, tested (`FreeLaws.reached-exact`)
   unfoldable pub reached : List ℕ → ℕ → Bool
   reached [] node = false
   reached (root ∷ roots) node = let others = reached roots node in leads count root node || others

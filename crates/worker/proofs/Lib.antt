@@ -1,2 +1,3 @@
 -- Laws of a worker's turn.
 pub mod Laws
+pub mod TurnLaws

@@ -18,26 +18,34 @@ use Rattle.worker.specs.declared.report.Report.the-variants.{Idle, Moved
 use Rattle.worker.specs.declared.report.Effect.{Effect}
 use Rattle.worker.specs.declared.report.Effect.the-variants.{Nothing, SetOwner, SetNext, SetMark, Fill}
 
--- a record with one word another
+-- a record with other stage, pred, curr, spare and answer: no turn but the last changes the other words
+abbrev pub changed : Worker → ℕ → ℕ → ℕ → ℕ → ℕ → Worker
+changed w stage pred curr spare answer =
+    record {
+      stage = stage;
+      operation = w .operation;
+      key = w .key;
+      pred = pred;
+      curr = curr;
+      spare = spare;
+      answer = answer;
+      reserved = w .reserved;
+    }
+
 abbrev pub withStage : Worker → ℕ → Worker
-withStage w value =
-    record { stage = value; operation = w .operation; key = w .key; pred = w .pred; curr = w .curr; spare = w .spare; answer = w .answer; reserved = w .reserved }
+withStage w stage = changed w stage (w .pred) (w .curr) (w .spare) (w .answer)
 
 abbrev pub withPred : Worker → ℕ → Worker
-withPred w value =
-    record { stage = w .stage; operation = w .operation; key = w .key; pred = value; curr = w .curr; spare = w .spare; answer = w .answer; reserved = w .reserved }
+withPred w pred = changed w (w .stage) pred (w .curr) (w .spare) (w .answer)
 
 abbrev pub withCurr : Worker → ℕ → Worker
-withCurr w value =
-    record { stage = w .stage; operation = w .operation; key = w .key; pred = w .pred; curr = value; spare = w .spare; answer = w .answer; reserved = w .reserved }
+withCurr w curr = changed w (w .stage) (w .pred) curr (w .spare) (w .answer)
 
 abbrev pub withSpare : Worker → ℕ → Worker
-withSpare w value =
-    record { stage = w .stage; operation = w .operation; key = w .key; pred = w .pred; curr = w .curr; spare = value; answer = w .answer; reserved = w .reserved }
+withSpare w spare = changed w (w .stage) (w .pred) (w .curr) spare (w .answer)
 
 abbrev pub withAnswer : Worker → ℕ → Worker
-withAnswer w value =
-    record { stage = w .stage; operation = w .operation; key = w .key; pred = w .pred; curr = w .curr; spare = w .spare; answer = value; reserved = w .reserved }
+withAnswer w answer = changed w (w .stage) (w .pred) (w .curr) (w .spare) answer
 
 -- nothing is written but the record, which may stay
 abbrev pub reports : Worker → Report → Step
@@ -135,5 +143,5 @@ module _ (w : Worker) (owner : ℕ) (seen : Seen) where
       ∷ []
 
   -- the turn at the record's stage (one above 25 is refused)
-  abbrev pub stepOf : Step
+  unfoldable pub stepOf : Step
   stepOf = getD stageTable (w .stage) (reports w Idle)

@@ -1,0 +1,132 @@
+-- What a turn on an arena does and what it leaves: for those who build on it.
+use Prim.Native.Nat.{ℕ, suc, _+_, _<_}
+use mathlib.Core.Path.{_≡_, refl, sym, ap, _∙_}
+use mathlib.Core.Logic.{_⊎_, inl, inr}
+use mathlib.Core.List.{List}
+use mathlib.Core.Bool.{cond}
+use native.Mathlib.Omega.{arith}
+use lib.ListN.{length, length-set}
+use lib.Seq.{getD-set-other, length-sets}
+use lib.Dec.{eqb}
+use Rattle.worker.specs.Node.{newNode}
+use Rattle.worker.specs.Report.{answerNumber}
+use Rattle.worker.specs.Stages.{takes, stepOf}
+use Rattle.worker.specs.Turn.{turnOf}
+use Rattle.worker.specs.declared.Worker.{Worker}
+use Rattle.worker.specs.declared.report.Answer.the-variants as answer
+use Rattle.worker.specs.declared.report.Free.{Free}
+use Rattle.worker.specs.declared.report.Free.the-variants as free
+use Rattle.worker.specs.declared.report.Step.{Step}
+use Rattle.worker.specs.declared.report.Effect.{Effect}
+use Rattle.worker.specs.declared.report.Effect.the-variants as effect
+use Rattle.worker.specs.declared.report.Turned.{Turned}
+use Rattle.worker.specs.declared.report.Turned.the-variants as turned
+use Rattle.worker.proofs.TurnLaws.{judged-done, done-step, step-row}
+use Rattle.arena.specs.Layout.{word, layoutOf, workersOf, nodesOf, nodeWidth, nodePart, nodeFrom, nodeKey, nodeNext, nodeMark, nodeOwner}
+use Rattle.arena.specs.Records.{workerWords, workerAt, withWorker, nodeWords, nextAt}
+use Rattle.arena.specs.Replies.{refused}
+use Rattle.arena.proofs.Runs.{sets-outside}
+use Rattle.arena.proofs.RecordLaws.{Outside, others-stay}
+use Rattle.lazy.specs.Free.{rootsOf, Reached, lowestFree}
+use Rattle.lazy.specs.Turn.{seenOf, seenBy, workerRefusals, turnOn, withEffect, turnedReply, turnedArena, turnAnswer, turnArena}
+use Rattle.lazy.proofs.FreeLaws.{lowest-found, lowest-none}
+
+-- a refused turn changes no word
+pub refused-stays : (arena : List ℕ) (worker : ℕ) {number : ℕ} → turnAnswer arena worker ≡ refused number → turnArena arena worker ≡ arena
+unfolding turnAnswer turnArena
+refused-stays arena worker {number} e = go (turnOn arena worker) e
+  where
+    go : (t : Turned) → turnedReply t ≡ refused number → turnedArena arena worker t ≡ arena
+    go (turned.Done step) e = let z : _≡_ {A = ℕ} 0 1 = cc in absurd (omega arith)
+    go (turned.Refused n) e = refl
+
+-- a place that an effect writes: a field of its node, or all four
+abbrev pub Touches : List ℕ → Effect → ℕ → Type 0
+Touches arena effect.Nothing at = ⊥
+Touches arena (effect.SetOwner node owner) at = at ≡ nodeFrom arena node nodeOwner
+Touches arena (effect.SetNext node next) at = at ≡ nodeFrom arena node nodeNext
+Touches arena (effect.SetMark node) at = at ≡ nodeFrom arena node nodeMark
+Touches arena (effect.Fill node key next) at = (field : ℕ) × (field < 4) × (at ≡ nodeFrom arena node field)
+
+effect-leaves : (arena : List ℕ) (e : Effect) (at : ℕ) → (Touches arena e at → ⊥) → word (withEffect arena e) at ≡ word arena at
+unfolding withEffect nodeFrom
+effect-leaves arena effect.Nothing at out = refl
+effect-leaves arena (effect.SetOwner node owner) at out = getD-set-other arena (nodeFrom arena node nodeOwner) at owner 0 out
+effect-leaves arena (effect.SetNext node next) at out = getD-set-other arena (nodeFrom arena node nodeNext) at next 0 out
+effect-leaves arena (effect.SetMark node) at out = getD-set-other arena (nodeFrom arena node nodeMark) at 1 0 out
+effect-leaves arena (effect.Fill node key next) at out =
+    sets-outside (nodeWords (newNode key next)) arena (nodeFrom arena node nodeKey) at (λ k h e. out (k, h, omega arith))
+
+-- a turn leaves every word but the worker's own record and what its effect writes
+pub turn-leaves : (arena : List ℕ) (worker at : ℕ) {step : Step} → turnOn arena worker ≡ turned.Done step →
+    Outside worker at → (Touches arena (step .effect) at → ⊥) → word (turnArena arena worker) at ≡ word arena at
+unfolding turnArena
+turn-leaves arena worker at {step} e outside out =
+    rw e (others-stay (withEffect arena (step .effect)) worker (step .worker) at outside ∙ effect-leaves arena (step .effect) at out)
+
+-- a turn that is done is the step of the worker's stage
+pub turn-steps : (arena : List ℕ) (worker : ℕ) {step : Step} → turnOn arena worker ≡ turned.Done step →
+    step ≡ stepOf (workerAt arena worker) (suc worker) (seenBy arena (workerAt arena worker))
+unfolding turnOn
+turn-steps arena worker e =
+    done-step (workerAt arena worker) (suc worker) (seenBy arena (workerAt arena worker))
+    (judged-done (workerRefusals arena worker) (turnOf (workerAt arena worker) (suc worker) (seenBy arena (workerAt arena worker))) e)
+
+-- document 01: some run of next links leads to the node from node 0, node 1, or a pred, curr or spare
+abbrev pub ReachedIn : List ℕ → ℕ → Type 0
+ReachedIn arena =
+    Reached (nextAt (nodeWidth (layoutOf arena)) (nodePart arena)) (nodesOf arena) (rootsOf (workerAt arena) (workersOf arena))
+
+module _ (arena : List ℕ) (w : Worker) (step : Step) where
+  -- the turn takes the lowest-numbered free node
+  pub record Takes : Type 0 where
+    pub node : ℕ
+    pub effect : step .effect ≡ effect.Fill node (w .key) (w .curr)
+    pub below : node < nodesOf arena
+    pub free : ReachedIn arena node → ⊥
+    pub lowest : (lower : ℕ) → lower < node → ReachedIn arena lower
+
+  -- the turn answers full, and no node is free
+  pub record IsFull : Type 0 where
+    pub effect : step .effect ≡ effect.Nothing
+    pub answer : step .worker .answer ≡ answerNumber answer.Full
+    pub none : (node : ℕ) → node < nodesOf arena → ReachedIn arena node
+
+-- at 14 a free node is taken where there is one, and full is answered only where there is none
+pub takes-free : (arena : List ℕ) (worker : ℕ) {step : Step} → turnOn arena worker ≡ turned.Done step →
+    workerAt arena worker .stage ≡ 14 → Takes arena (workerAt arena worker) step ⊎ IsFull arena (workerAt arena worker) step
+unfolding seenBy seenOf
+takes-free arena worker {step} e s =
+    go (lowestFree next (nodesOf arena) roots) refl
+    (turn-steps arena worker e ∙ step-row w (suc worker) (seenBy arena w) s ∙ ap (takes w) (seen-free (w .stage) s))
+  where
+    w : Worker
+    w = workerAt arena worker
+
+    next : ℕ → ℕ
+    next = nextAt (nodeWidth (layoutOf arena)) (nodePart arena)
+
+    roots : List ℕ
+    roots = rootsOf (workerAt arena) (workersOf arena)
+
+    seen-free : (stage : ℕ) → stage ≡ 14 →
+        cond (eqb stage 14) (lowestFree next (nodesOf arena) roots) free.None ≡ lowestFree next (nodesOf arena) roots
+    seen-free stage s = rw s
+
+    go : (found : Free) → lowestFree next (nodesOf arena) roots ≡ found → step ≡ takes w found →
+        Takes arena w step ⊎ IsFull arena w step
+    go free.None none same =
+        inr (record {
+          effect = ap (λ (t : Step). t .effect) same;
+          answer = ap (λ (t : Step). t .worker .answer) same;
+          none = lowest-none next (nodesOf arena) roots none;
+        })
+    go (free.Node node) some same =
+        let found = lowest-found next (nodesOf arena) roots some in
+        inl (record {
+          node = node;
+          effect = ap (λ (t : Step). t .effect) same;
+          below = found .0;
+          free = found .1;
+          lowest = found .2;
+        })

@@ -1,0 +1,37 @@
+-- What a turn that is done comes to: no test refused it, and it is the step of its stage, a row of the table.
+use Prim.Native.Nat.{ℕ}
+use mathlib.Core.Path.{_≡_, ap}
+use mathlib.Core.List.{List, [], _∷_}
+use mathlib.Core.Bool.{Bool, true, false, cond}
+use native.Mathlib.Omega.{arith}
+use lib.ListN.{getD}
+use Rattle.worker.specs.Refusals.{Refusal, judged}
+use Rattle.worker.specs.Stages.{reports, stageTable, stepOf}
+use Rattle.worker.specs.Turn.{turnRefusals, turnOf}
+use Rattle.worker.specs.declared.Worker.{Worker}
+use Rattle.worker.specs.declared.report.Seen.{Seen}
+use Rattle.worker.specs.declared.report.Report.the-variants.{Idle}
+use Rattle.worker.specs.declared.report.Step.{Step}
+use Rattle.worker.specs.declared.report.Turned.{Turned}
+use Rattle.worker.specs.declared.report.Turned.the-variants.{Refused, Done}
+
+-- a judgement that is done was not refused
+pub judged-done : (rs : List Refusal) (accept : Turned) {step : Step} → judged rs Refused accept ≡ Done step → accept ≡ Done step
+judged-done [] accept e = e
+judged-done (r ∷ rs) accept {step} e = go (r .0) (λ others. judged-done rs accept others) e
+  where
+    go : (t : Bool) → (judged rs Refused accept ≡ Done step → accept ≡ Done step) →
+        cond t (Refused (r .1)) (judged rs Refused accept) ≡ Done step → accept ≡ Done step
+    go true others e = let z : _≡_ {A = ℕ} 0 1 = cc in absurd (omega arith)
+    go false others e = others e
+
+pub done-step : (w : Worker) (owner : ℕ) (seen : Seen) {step : Step} → turnOf w owner seen ≡ Done step → step ≡ stepOf w owner seen
+unfolding turnOf
+done-step w owner seen {step} e =
+    let done : Done (stepOf w owner seen) ≡ Done step = judged-done (turnRefusals w seen) (Done (stepOf w owner seen)) e in
+    cc
+
+pub step-row : (w : Worker) (owner : ℕ) (seen : Seen) {stage : ℕ} → w .stage ≡ stage →
+    stepOf w owner seen ≡ getD (stageTable w owner seen) stage (reports w Idle)
+unfolding stepOf
+step-row w owner seen s = ap (λ (n : ℕ). getD (stageTable w owner seen) n (reports w Idle)) s
