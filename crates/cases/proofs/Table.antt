@@ -1,13 +1,17 @@
 -- Every row of the table holds, by computation.
 use mathlib.Core.Path.{_≡_, refl}
 use mathlib.Core.List.{map, flatten}
-use Rattle.arena.specs.Layout.{nodeWidth, headerWords, nodePart}
-use Rattle.arena.specs.Records.{workerAt, withWorker}
+use Rattle.worker.specs.Stages.{stepOf}
+use Rattle.worker.specs.Turn.{belongs, kept, placed, astray, busyRefusals, turnRefusals, turnOf}
+use Rattle.arena.specs.Layout.{nodeWidth, headerWords, nodePart, nodeFrom}
+use Rattle.arena.specs.Records.{workerAt, withWorker, nodeAt}
 use Rattle.arena.specs.Header.{isHeader, headerRefusals}
 use Rattle.arena.specs.Init.{freshWorkers, freshNodes, freshWords, initRefusals, initAnswer, initArena}
 use Rattle.arena.specs.Start.{callRefusals, startRefusals, startAnswer, startArena}
+use Rattle.lazy.specs.Free.{rootsOf, leads, reached, lowestFrom, lowestFree}
+use Rattle.lazy.specs.Turn.{seenOf, seenBy, workerRefusals, turnOn, withEffect, turnAnswer, turnArena}
 use Rattle.cases.specs.Cases.{found, stated, cases}
 
 pub cases-hold : map found cases ≡ map stated cases
-unfolding flatten nodeWidth headerWords nodePart workerAt withWorker isHeader headerRefusals freshWorkers freshNodes freshWords initRefusals initAnswer initArena callRefusals startRefusals startAnswer startArena
+unfolding flatten nodeWidth headerWords nodePart workerAt withWorker isHeader headerRefusals freshWorkers freshNodes freshWords initRefusals initAnswer initArena callRefusals startRefusals startAnswer startArena stepOf belongs kept placed astray busyRefusals turnRefusals turnOf nodeFrom nodeAt rootsOf leads reached lowestFrom lowestFree seenOf seenBy workerRefusals turnOn withEffect turnAnswer turnArena
 cases-hold = refl

@@ -1,31 +1,49 @@
 -- One table for the starred cases of document 01, "Small boards": a row lends words, makes some calls, asks one thing more, and says
 -- what is replied.
-use Prim.Native.Nat.{ℕ}
+use Prim.Native.Nat.{ℕ, zero, suc}
 use mathlib.Core.List.{List, [], _∷_}
 use lib.ListN.{replicate}
-use Rattle.worker.specs.Worker.{add, contains}
-use Rattle.arena.specs.Layout.{word}
+use Rattle.worker.specs.Worker.{add, remove, contains}
 use Rattle.worker.specs.Refusals.{shortArena, busy, badCall, badCounts}
+use Rattle.worker.specs.Report.{reportValues}
+use Rattle.worker.specs.declared.report.Answer.the-variants.{Yes, No}
+use Rattle.worker.specs.declared.report.Report.{Report}
+use Rattle.worker.specs.declared.report.Report.the-variants.{Idle, Waits, Finished}
+use Rattle.arena.specs.Layout.{word}
 use Rattle.arena.specs.Replies.{Reply, refused, accepted}
 use Rattle.arena.specs.Init.{initAnswer, initArena}
 use Rattle.arena.specs.Start.{startAnswer, startArena}
+use Rattle.lazy.specs.Turn.{turnAnswer, turnArena}
 
--- what is asked of an arena: init with W and N, a start with worker, operation and key, or the word at a place
+-- what is asked of an arena: init with W and N, a start with worker, operation and key, so many turns of a worker, or the word at a
+-- place
 pub data Ask : Type 0 where
   init : ℕ → ℕ → Ask
   start : ℕ → ℕ → ℕ → Ask
+  turns : ℕ → ℕ → Ask
   look : ℕ → Ask
+
+abbrev pub afterTurns : List ℕ → ℕ → ℕ → List ℕ
+afterTurns arena worker zero = arena
+afterTurns arena worker (suc count) = turnArena (afterTurns arena worker count) worker
+
+-- the reply to the last of them
+abbrev pub lastReply : List ℕ → ℕ → ℕ → Reply
+lastReply arena worker zero = accepted []
+lastReply arena worker (suc count) = turnAnswer (afterTurns arena worker count) worker
 
 -- what is replied
 abbrev pub replyTo : List ℕ → Ask → Reply
 replyTo arena (init workers nodes) = initAnswer arena workers nodes
 replyTo arena (start worker operation key) = startAnswer arena worker operation key
+replyTo arena (turns worker count) = lastReply arena worker count
 replyTo arena (look at) = accepted (word arena at ∷ [])
 
 -- and the arena afterwards
 abbrev pub arenaAfter : List ℕ → Ask → List ℕ
 arenaAfter arena (init workers nodes) = initArena arena workers nodes
 arenaAfter arena (start worker operation key) = startArena arena worker operation key
+arenaAfter arena (turns worker count) = afterTurns arena worker count
 arenaAfter arena (look at) = arena
 
 abbrev pub arenaAfterAll : List ℕ → List Ask → List ℕ
@@ -46,6 +64,18 @@ stated (row words before ask reply) = reply
 abbrev pub small : Ask
 small = init 1 3
 
+-- what a turn reports. One that finishes is the last of its call's turns: the next would report idle
+abbrev pub reports : Report → Reply
+reports report = accepted (reportValues report)
+
+-- only 5 stored, and worker 0 at the start of a call
+abbrev pub stored : ℕ → List Ask
+stored operation = small ∷ start 0 add 5 ∷ turns 0 14 ∷ start 0 operation 5 ∷ []
+
+-- two adds on an empty set: worker 0 has taken pred, and worker 1 wants it
+abbrev pub twoAdds : List Ask
+twoAdds = init 2 3 ∷ start 0 add 5 ∷ turns 0 4 ∷ start 1 add 7 ∷ turns 1 3 ∷ []
+
 abbrev pub cases : List Case
 cases =
     -- W 1, N 3: node offset 16, total 28; 27 words: 1
@@ -62,4 +92,17 @@ cases =
     ∷ row 28 (small ∷ []) (start 0 add 65534) (accepted [])
     -- key 0 on a busy worker: 4
     ∷ row 28 (small ∷ start 0 contains 5 ∷ []) (start 0 add 0) (refused busy)
+    -- turn of an idle worker: idle
+    ∷ row 28 (small ∷ []) (turns 0 1) (reports Idle)
+    -- alone on an empty set: add 5 takes 14 turns, contains 5 takes 5
+    ∷ row 28 (small ∷ start 0 add 5 ∷ []) (turns 0 14) (reports (Finished Yes))
+    ∷ row 28 (small ∷ start 0 contains 5 ∷ []) (turns 0 5) (reports (Finished No))
+    -- with only 5 stored: contains 5 takes 6, remove 5 takes 15, add 5 takes 12
+    ∷ row 28 (stored contains) (turns 0 6) (reports (Finished Yes))
+    ∷ row 28 (stored remove) (turns 0 15) (reports (Finished Yes))
+    ∷ row 28 (stored add) (turns 0 12) (reports (Finished No))
+    -- two adds on an empty set, worker 0 at stage 7: worker 1 at 6 waits
+    ∷ row 36 twoAdds (look 8) (accepted (7 ∷ []))
+    ∷ row 36 twoAdds (look 16) (accepted (6 ∷ []))
+    ∷ row 36 twoAdds (turns 1 1) (reports Waits)
     ∷ []
