@@ -1,8 +1,13 @@
-// Runs what the starred cases leave out: the limits of the counts, damaged headers, records and chains. What it prints is held to
-// the stored output, which was worked out by hand from document 01.
+// Runs what the starred cases leave out: the limits of the counts, damaged headers, records and chains, a turn at
+// each stage, and nodes used again. What it prints is held to
+// the stored output, which was worked out from document 01.
+mod circles;
+mod damage;
 mod print;
+mod reuse;
 mod snapshots;
 mod starts;
+mod turns;
 
 use print::show;
 use print::show_words;
@@ -14,6 +19,14 @@ fn main() {
     snapshots::chains();
     snapshots::breaks();
     snapshots::longer();
+    circles::arenas();
+    damage::stages();
+    damage::refusals();
+    circles::hunts();
+    circles::searches();
+    reuse::filled();
+    reuse::stood_on();
+    reuse::led_to();
 }
 
 fn inits() {

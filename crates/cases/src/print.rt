@@ -35,12 +35,12 @@ pub fn show_words(text: &[u8], words: &[u16]) {
     end_line();
 }
 
-fn show_word(word: u16) {
+pub fn show_word(word: u16) {
     io::write_all(1, b" ");
     io::print_decimal(1, word as u64);
 }
 
-fn end_line() {
+pub fn end_line() {
     io::write_all(1, b"\n");
 }
 
