@@ -1,10 +1,12 @@
 // Worker and node records, read from and written to words.
 ghost use Prim.Native.Nat.{_+_};
 ghost use mathlib.Core.Path.{_≡_};
+ghost use lib.ListN.{set};
 ghost use lib.Seq.{sets};
 ghost use Rattle.arena.specs.Records.{workerWords, workerAt, withWorker, nodeWords, nodeAt};
 ghost use Rattle.arena.specs.Layout.{word, workerFrom, slot, nodeFrom};
 use crate::layout;
+use crate::words::put;
 use crate::words::word;
 use crate::words::write;
 use worker::Node;
@@ -74,6 +76,14 @@ pub fn node_from(arena: &[u16], node: u16, field: u16) -> usize
 {
     let width = layout::node_width(word(arena, layout::LAYOUT_AT));
     (word(arena, layout::NODES_FROM_AT) as usize) + layout::slot(width, node, field)
+}
+
+// A field of a node in an arena.
+pub fn write_node_field(arena: &mut [u16], node: u16, field: u16, value: u16)
+    ensures { λ _. ⌜ now (arena .exit) ≡ set (now (arena .entry)) (nodeFrom (now (arena .entry)) node field) value ⌝ }
+{
+    let at = node_from(arena, node, field);
+    put(arena, at, value);
 }
 
 // A field of a node, of the arena's part that holds the node records.

@@ -104,22 +104,12 @@ fn apply(arena: &mut [u16], effect: Effect)
     match effect {
         Effect::Nothing => {}
         Effect::SetOwner(node, owner) => {
-            words::put(
-                arena,
-                records::node_from(arena, node, layout::NODE_OWNER),
-                owner,
-            )
+            records::write_node_field(arena, node, layout::NODE_OWNER, owner)
         }
         Effect::SetNext(node, next) => {
-            words::put(
-                arena,
-                records::node_from(arena, node, layout::NODE_NEXT),
-                next,
-            )
+            records::write_node_field(arena, node, layout::NODE_NEXT, next)
         }
-        Effect::SetMark(node) => {
-            words::put(arena, records::node_from(arena, node, layout::NODE_MARK), 1)
-        }
+        Effect::SetMark(node) => records::write_node_field(arena, node, layout::NODE_MARK, 1),
         Effect::Fill(node, key, next) => {
             records::write_node(
                 arena,

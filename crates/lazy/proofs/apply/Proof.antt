@@ -10,21 +10,15 @@ nothing c = rw (c .enum-told .given .1)
 
 owner : tie.Need-returns-2
 unfolding withEffect
-owner c =
-    let put = c .before .before in
-    rw (put .put .ensures, put .before .node-from .ensures, put .before .before .before .before .before .effect .given .1)
+owner c = rw (c .before .before .write-node-field .ensures, c .before .before .before .before .before .effect .given .1)
 
 next : tie.Need-returns-3
 unfolding withEffect
-next c =
-    let put = c .before .before in
-    rw (put .put2 .ensures, put .before .node-from2 .ensures, put .before .before .before .before .before .effect2 .given .1)
+next c = rw (c .before .before .write-node-field2 .ensures, c .before .before .before .before .before .effect2 .given .1)
 
 mark : tie.Need-returns-4
 unfolding withEffect
-mark c =
-    let put = c .before .before in
-    rw (put .put3 .ensures, put .before .node-from3 .ensures, put .before .before .before .before .before .effect3 .given .1)
+mark c = rw (c .before .before .write-node-field3 .ensures, c .before .before .before .before .before .effect3 .given .1)
 
 fill : tie.Need-returns-5
 unfolding withEffect
@@ -33,9 +27,9 @@ fill c =
     rw (
       c .before .before .write-node .ensures,
       node .new .ensures,
-      node .before .node-from4 .ensures,
+      node .before .node-from .ensures,
       node .before .before .before .before .before .effect4 .given .1,
     )
 
 pub apply-spec : {M : Type 1} → statement M
-apply-spec = tie.close (tie.spec (search needs) (search needs) (search needs) (search needs) (search needs) (search needs) (search needs) (search needs) (search needs) (search needs) (search needs) (search needs) (search needs) (search needs) nothing (search needs) owner (search needs) next (search needs) mark (search needs) fill)
+apply-spec = tie.close (tie.spec (search needs) (search needs) (search needs) (search needs) (search needs) (search needs) (search needs) (search needs) (search needs) (search needs) (search needs) nothing (search needs) owner (search needs) next (search needs) mark (search needs) fill)

@@ -10,7 +10,7 @@ use Rattle.arena.specs.Init.{freshWorkers, freshNodes, freshWords, initRefusals
 use Rattle.arena.specs.Start.{callRefusals, startRefusals, startAnswer, startArena}
 use Rattle.lazy.specs.Free.{rootsOf, leads, reached, lowestFrom, lowestFree}
 use Rattle.lazy.specs.Turn.{seenOf, seenBy, workerRefusals, turnOn, withEffect, turnAnswer, turnArena}
-use Rattle.cases.specs.Cases.{found, stated, cases}
+use Rattle.table.specs.Cases.{found, stated, cases}
 
 pub cases-hold : map found cases ≡ map stated cases
 unfolding flatten nodeWidth headerWords nodePart workerAt withWorker isHeader headerRefusals freshWorkers freshNodes freshWords initRefusals initAnswer initArena callRefusals startRefusals startAnswer startArena stepOf belongs kept placed astray busyRefusals turnRefusals turnOf nodeFrom nodeAt rootsOf leads reached lowestFrom lowestFree seenOf seenBy workerRefusals turnOn withEffect turnAnswer turnArena
