@@ -80,7 +80,7 @@ fn look(arena: &[u16], nodes: &[u16], width: u16, count: u16, state: Worker) -> 
 {
     let pred = records::read_node(nodes, width, state.pred);
     let curr = records::read_node(nodes, width, state.curr);
-    if state.stage == 14 {
+    if state.stage == Worker::TAKE_STAGE {
         let free = free::find_free(arena, nodes, width, count);
         return Seen {
             count,

@@ -3,7 +3,7 @@ use Prim.Native.Nat.{ℕ}
 use mathlib.Core.List.{List, [], _∷_}
 use mathlib.Core.Bool.{Bool, false, cond, not, _&&_, _||_}
 use lib.Dec.{leb, ltb, eqb}
-use Rattle.worker.specs.Worker.{within, add, remove, contains, idleStage, lastStage}
+use Rattle.worker.specs.Worker.{within, isKey, add, remove, contains, idleStage, lastStage}
 use Rattle.worker.specs.Refusals.{Refusal, judged, brokenRecord, brokenChain}
 use Rattle.worker.specs.Stages.{stepOf}
 use Rattle.worker.specs.declared.Worker.{Worker}
@@ -22,9 +22,9 @@ belongs stage operation =
     (cond (within 22 25 stage) (eqb operation contains)
     false)))))
 
--- the key is 1 to 65,534, and at 19 to 21 the answer is 1 to 3
+-- the key is a key of calls, and at 19 to 21 the answer is 1 to 3
 unfoldable pub kept : Worker → Bool
-kept w = within 1 65534 (w .key) && (not (within 19 21 (w .stage)) || within 1 3 (w .answer))
+kept w = isKey (w .key) && (not (within 19 21 (w .stage)) || within 1 3 (w .answer))
 
 -- the stages that read pred, those that read curr, and those that read spare
 abbrev pub readsPred : ℕ → Bool

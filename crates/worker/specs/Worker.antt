@@ -26,9 +26,13 @@ lastStage = 25
 abbrev pub within : ℕ → ℕ → ℕ → Bool
 within low high n = leb low n && leb n high
 
--- a call: operation 1 to 3, key 1 to 65,534
+-- keys of calls are 1 to 65,534
+abbrev pub isKey : ℕ → Bool
+isKey key = within 1 65534 key
+
+-- a call: operation 1 to 3, and a key of calls
 abbrev pub isCall : ℕ → ℕ → Bool
-isCall operation key = within 1 3 operation && within 1 65534 key
+isCall operation key = within add contains operation && isKey key
 
 -- a record that has met no node yet: stage, operation, key, none three times, 0, 0
 abbrev pub newWorker : ℕ → ℕ → ℕ → Worker

@@ -1,7 +1,7 @@
 // A worker of the lazy list as a value: the records of nodes and workers, and a worker's turn. Nothing here knows of an arena's words.
 ghost use mathlib.Core.Path.{_≡_};
 ghost use Rattle.worker.specs.Node.{newNode, headNode, tailNode, unusedNode};
-ghost use Rattle.worker.specs.Worker.{isCall, newWorker, idleWorker, firstStage, startedWorker};
+ghost use Rattle.worker.specs.Worker.{within, isKey, isCall, newWorker, idleWorker, firstStage, startedWorker};
 
 pub mod refusal;
 mod report;
@@ -90,10 +90,12 @@ impl Worker {
 
     pub const CONTAINS: u16 = 3;
 
-    // Stages: idle, the first of add and remove, the first of contains, the last of all.
+    // Stages: idle, the first of add and remove, the one that takes a free node, the first of contains, the last of all.
     pub const IDLE_STAGE: u16 = 0;
 
     pub const SEARCH_STAGE: u16 = 1;
+
+    pub const TAKE_STAGE: u16 = 14;
 
     pub const LOOK_UP_STAGE: u16 = 22;
 
@@ -143,5 +145,17 @@ fn first_stage(operation: u16) -> u16
 pub fn is_call(operation: u16, key: u16) -> bool
     ensures { λ r. ⌜ r ≡ isCall operation key ⌝ }
 {
-    ((1 <= operation) & (operation <= 3)) & ((1 <= key) & (key <= 65534))
+    is_within(operation, Worker::ADD, Worker::CONTAINS) & is_key(key)
+}
+
+pub(crate) fn is_key(key: u16) -> bool
+    ensures { λ r. ⌜ r ≡ isKey key ⌝ }
+{
+    is_within(key, 1, 65534)
+}
+
+pub(crate) fn is_within(n: u16, low: u16, high: u16) -> bool
+    ensures { λ r. ⌜ r ≡ within low high n ⌝ }
+{
+    (low <= n) & (n <= high)
 }

@@ -1,6 +1,6 @@
 // What a turn sees of the nodes, what it reports, and what it does to them.
 ghost use mathlib.Core.Path.{_≡_};
-ghost use Rattle.worker.specs.Report.{answerNumber, numberedAnswer};
+ghost use Rattle.worker.specs.Report.{numberedAnswer};
 use crate::Node;
 use crate::Worker;
 

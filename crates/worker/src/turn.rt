@@ -1,9 +1,10 @@
 // A worker's turn: the refusals of its record and of the chain, else the step of its stage.
 ghost use mathlib.Core.Path.{_≡_};
 ghost use Prim.Native.Nat.{_≤_};
-ghost use Rattle.worker.specs.Worker.{within};
 ghost use Rattle.worker.specs.Turn.{belongs, kept, readsPred, readsCurr, readsSpare, placed, astray, turnOf};
 use crate::Worker;
+use crate::is_key;
+use crate::is_within;
 use crate::refusal;
 use crate::report::Seen;
 use crate::report::Turned;
@@ -45,8 +46,7 @@ impl Worker {
     fn is_kept(self) -> bool
         ensures { λ r. ⌜ r ≡ kept self ⌝ }
     {
-        is_within(self.key, 1, 65534)
-            & (!is_within(self.stage, 19, 21) | is_within(self.answer, 1, 3))
+        is_key(self.key) & (!is_within(self.stage, 19, 21) | is_within(self.answer, 1, 3))
     }
 
     // The node numbers that the stage reads.
@@ -80,12 +80,6 @@ fn operation_belongs(stage: u16, operation: u16) -> bool
         22..=25 => operation == Worker::CONTAINS,
         _ => false,
     }
-}
-
-fn is_within(n: u16, low: u16, high: u16) -> bool
-    ensures { λ r. ⌜ r ≡ within low high n ⌝ }
-{
-    (low <= n) & (n <= high)
 }
 
 fn reads_pred(s: u16) -> bool
