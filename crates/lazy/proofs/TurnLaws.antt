@@ -1,12 +1,11 @@
 -- What a turn on an arena does and what it leaves: for those who build on it.
-use Prim.Native.Nat.{ℕ, suc, _+_, _<_}
-use mathlib.Core.Path.{_≡_, refl, sym, ap, _∙_}
+use Prim.Native.Nat.{ℕ, suc, _<_}
+use mathlib.Core.Path.{_≡_, refl, ap, _∙_}
 use mathlib.Core.Logic.{_⊎_, inl, inr}
 use mathlib.Core.List.{List}
 use mathlib.Core.Bool.{cond}
 use native.Mathlib.Omega.{arith}
-use lib.ListN.{length, length-set}
-use lib.Seq.{getD-set-other, length-sets}
+use lib.Seq.{getD-set-other}
 use lib.Dec.{eqb}
 use Rattle.worker.specs.Node.{newNode}
 use Rattle.worker.specs.Report.{answerNumber}
@@ -23,12 +22,12 @@ use Rattle.worker.specs.declared.report.Turned.{Turned}
 use Rattle.worker.specs.declared.report.Turned.the-variants as turned
 use Rattle.worker.proofs.TurnLaws.{judged-done, done-step, step-row}
 use Rattle.arena.specs.Layout.{word, layoutOf, workersOf, nodesOf, nodeWidth, nodePart, nodeFrom, nodeKey, nodeNext, nodeMark, nodeOwner}
-use Rattle.arena.specs.Records.{workerWords, workerAt, withWorker, nodeWords, nextAt}
+use Rattle.arena.specs.Records.{workerAt, nodeWords, nextAt}
 use Rattle.arena.specs.Replies.{refused}
 use Rattle.arena.proofs.Runs.{sets-outside}
 use Rattle.arena.proofs.RecordLaws.{Outside, others-stay}
 use Rattle.lazy.specs.Free.{rootsOf, Reached, lowestFree}
-use Rattle.lazy.specs.Turn.{seenOf, seenBy, workerRefusals, turnOn, withEffect, turnedReply, turnedArena, turnAnswer, turnArena}
+use Rattle.lazy.specs.Turn.{seenOf, seenBy, workerRefusals, turnOn, outcomeReply, outcomeOf, withEffect, turnedArena, turnAnswer, turnArena}
 use Rattle.lazy.proofs.FreeLaws.{lowest-found, lowest-none}
 
 -- a refused turn changes no word
@@ -36,7 +35,7 @@ pub refused-stays : (arena : List ℕ) (worker : ℕ) {number : ℕ} → turnAns
 unfolding turnAnswer turnArena
 refused-stays arena worker {number} e = go (turnOn arena worker) e
   where
-    go : (t : Turned) → turnedReply t ≡ refused number → turnedArena arena worker t ≡ arena
+    go : (t : Turned) → outcomeReply (outcomeOf t) ≡ refused number → turnedArena arena worker t ≡ arena
     go (turned.Done step) e = let z : _≡_ {A = ℕ} 0 1 = cc in absurd (omega arith)
     go (turned.Refused n) e = refl
 

@@ -30,6 +30,11 @@ abbrev pub outcomeReply : Outcome → Reply
 outcomeReply (outcome.Reported report) = accepted (reportValues report)
 outcomeReply (outcome.Refused number) = refused number
 
+-- of a turn that is done the report is told
+abbrev pub outcomeOf : Turned → Outcome
+outcomeOf (turned.Done step) = outcome.Reported (step .report)
+outcomeOf (turned.Refused number) = outcome.Refused number
+
 -- what a turn sees besides the worker's record: N, the nodes pred and curr, and at 14 the lowest-numbered free node
 unfoldable pub seenOf : (ℕ → Worker) → ℕ → (ℕ → Node) → ℕ → Worker → Seen
 seenOf workers workerCount node count w =
@@ -63,18 +68,13 @@ withEffect arena (effect.SetNext node next) = set arena (nodeFrom arena node nod
 withEffect arena (effect.SetMark node) = set arena (nodeFrom arena node nodeMark) 1
 withEffect arena (effect.Fill node key next) = sets arena (nodeFrom arena node nodeKey) (nodeWords (newNode key next))
 
--- the report, or the number alone
-abbrev pub turnedReply : Turned → Reply
-turnedReply (turned.Done step) = accepted (reportValues (step .report))
-turnedReply (turned.Refused number) = refused number
-
 -- the effect and the worker's next record; a refused turn changes nothing
 abbrev pub turnedArena : List ℕ → ℕ → Turned → List ℕ
 turnedArena arena worker (turned.Done step) = withWorker (withEffect arena (step .effect)) worker (step .worker)
 turnedArena arena worker (turned.Refused number) = arena
 
 unfoldable pub turnAnswer : List ℕ → ℕ → Reply
-turnAnswer arena worker = turnedReply (turnOn arena worker)
+turnAnswer arena worker = outcomeReply (outcomeOf (turnOn arena worker))
 
 unfoldable pub turnArena : List ℕ → ℕ → List ℕ
 turnArena arena worker = turnedArena arena worker (turnOn arena worker)

@@ -1,5 +1,5 @@
 -- The answer and the words are those of what the turn comes to.
-use mathlib.Core.Path.{sym, ap, _∙_}
+use mathlib.Core.Path.{sym, _∙_}
 use borrow.Author.Needs.{needs}
 use Rattle.lazy.specs.Turn.{turnAnswer, turnArena}
 use Rattle.lazy.proofs.turn.Statement.{statement}

@@ -1,5 +1,4 @@
 -- The header's refusal, no such worker, or the worker's own turn.
-use Prim.Native.Nat.{_<_}
 use mathlib.Core.Path.{_≡_, sym, ap, _∙_}
 use mathlib.Core.List.{[]}
 use native.Mathlib.Omega.{arith}

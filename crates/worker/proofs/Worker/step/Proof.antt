@@ -1,5 +1,4 @@
 -- Each stage does what its row of the table says.
-use native.Mathlib.Omega.{arith}
 use borrow.Author.Needs.{needs}
 use lib.ListN.{List·getD-eq-default}
 use Rattle.worker.specs.Stages.{stageTable, stepOf, reports}
