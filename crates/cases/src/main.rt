@@ -1,6 +1,5 @@
-// Runs what the starred cases leave out: the limits of the counts, damaged headers, records and chains, a turn at
-// each stage, and nodes used again. What it prints is held to
-// the stored output, which was worked out from document 01.
+// Runs what the starred cases leave out: the limits of the counts, damaged headers, records and chains, a turn at each stage, and nodes
+// used again. What it prints is held to the stored output, which was worked out from document 01.
 mod circles;
 mod damage;
 mod print;
