@@ -1,10 +1,11 @@
--- Laws of the judgement by a list of refusals.
+-- Laws of the reply by a list of refusals, and of what else the list judges.
 use Prim.Native.Nat.{ℕ}
 use mathlib.Core.Path.{_≡_, refl, sym, ap, _∙_}
 use mathlib.Core.List.{List, [], _∷_, _++_}
 use mathlib.Core.Bool.{Bool, true, false, cond}
 use native.Mathlib.Omega.{arith}
 use Rattle.worker.specs.Refusals.{Refusal, judged}
+use Rattle.worker.proofs.RefusalLaws.{judged-append}
 use Rattle.arena.specs.Replies.{Reply, refused, accepted, replied}
 
 settled : {A : Type 0} → Reply → (ℕ → A) → A → A
@@ -51,22 +52,6 @@ pub given-values : (rs : List Refusal) (values : List ℕ) {given : List ℕ} �
 given-values rs values {given} e =
     let same : accepted given ≡ accepted values = e ∙ judged-accepted rs values refused (accepted values) e in
     cc
-
--- what every outcome has, the judgement has
-pub judged-keeps : {A : Type 0} (P : A → Type 0) (rs : List Refusal) (refuse : ℕ → A) (accept : A) →
-    ((number : ℕ) → P (refuse number)) → P accept → P (judged rs refuse accept)
-judged-keeps P [] refuse accept p q = q
-judged-keeps {A} P (r ∷ rs) refuse accept p q = go (r .0) (judged rs refuse accept) (judged-keeps P rs refuse accept p q)
-  where
-    go : (t : Bool) (others : A) → P others → P (cond t (refuse (r .1)) others)
-    go true others more = p (r .1)
-    go false others more = more
-
--- a list of refusals behind another
-judged-append : {A : Type 0} (rs ss : List Refusal) (refuse : ℕ → A) (accept : A) →
-    judged (rs ++ ss) refuse accept ≡ judged rs refuse (judged ss refuse accept)
-judged-append [] ss refuse accept = refl
-judged-append (r ∷ rs) ss refuse accept = ap (cond (r .0) (refuse (r .1))) (judged-append rs ss refuse accept)
 
 module _ {A : Type 0} (rs ss : List Refusal) (values : List ℕ) (refuse : ℕ → A) (accept : A) where
   pub refused-first : {number : ℕ} → refused number ≡ replied rs values → judged (rs ++ ss) refuse accept ≡ refuse number

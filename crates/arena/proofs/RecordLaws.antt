@@ -8,10 +8,10 @@ use lib.ListN.{length}
 use lib.Seq.{sets}
 use Rattle.worker.specs.declared.Worker.{Worker}
 use Rattle.worker.specs.Worker.{startedWorker}
+use Rattle.worker.proofs.RefusalLaws.{judged-keeps}
 use Rattle.arena.specs.Layout.{word, workerWidth, workerFrom}
 use Rattle.arena.specs.Records.{workerWords, workerAt, withWorker}
 use Rattle.arena.specs.Start.{startRefusals, startArena}
-use Rattle.arena.proofs.Judged.{judged-keeps}
 use Rattle.arena.proofs.Runs.{sets-outside, sets-at}
 
 -- a place outside the record of a worker

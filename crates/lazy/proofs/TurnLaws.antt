@@ -8,7 +8,7 @@ use native.Mathlib.Omega.{arith}
 use lib.Seq.{getD-set-other}
 use lib.Dec.{eqb}
 use Rattle.worker.specs.Node.{newNode}
-use Rattle.worker.specs.Report.{answerNumber}
+use Rattle.worker.specs.Report.{answerNumber, reportValues}
 use Rattle.worker.specs.Stages.{takes, stepOf}
 use Rattle.worker.specs.Turn.{turnOf}
 use Rattle.worker.specs.declared.Worker.{Worker}
@@ -20,6 +20,7 @@ use Rattle.worker.specs.declared.report.Effect.{Effect}
 use Rattle.worker.specs.declared.report.Effect.the-variants as effect
 use Rattle.worker.specs.declared.report.Turned.{Turned}
 use Rattle.worker.specs.declared.report.Turned.the-variants as turned
+use Rattle.worker.proofs.ReportLaws.{report-told}
 use Rattle.worker.proofs.TurnLaws.{judged-done, done-step, step-row}
 use Rattle.arena.specs.Layout.{word, layoutOf, workersOf, nodesOf, nodeWidth, nodePart, nodeFrom, nodeKey, nodeNext, nodeMark, nodeOwner}
 use Rattle.arena.specs.Records.{workerAt, nodeWords, nextAt}
@@ -27,8 +28,23 @@ use Rattle.arena.specs.Replies.{refused}
 use Rattle.arena.proofs.Runs.{sets-outside}
 use Rattle.arena.proofs.RecordLaws.{Outside, others-stay}
 use Rattle.lazy.specs.Free.{rootsOf, Reached, lowestFree}
+use Rattle.lazy.specs.declared.Outcome.{Outcome}
+use Rattle.lazy.specs.declared.Outcome.the-variants as outcome
 use Rattle.lazy.specs.Turn.{seenOf, seenBy, workerRefusals, turnOn, outcomeReply, outcomeOf, withEffect, turnedArena, turnAnswer, turnArena}
 use Rattle.lazy.proofs.FreeLaws.{lowest-found, lowest-none}
+
+-- the reply tells the outcome, so a turn answers just what it comes to
+outcome-told : (a b : Outcome) → outcomeReply a ≡ outcomeReply b → a ≡ b
+outcome-told (outcome.Reported a) (outcome.Reported b) same =
+    let values : reportValues a ≡ reportValues b = cc in ap outcome.Reported (report-told a b values)
+outcome-told (outcome.Reported a) (outcome.Refused n) same = let z : _≡_ {A = ℕ} 0 1 = cc in absurd (omega arith)
+outcome-told (outcome.Refused n) (outcome.Reported b) same = let z : _≡_ {A = ℕ} 0 1 = cc in absurd (omega arith)
+outcome-told (outcome.Refused n) (outcome.Refused m) same = let number : n ≡ m = cc in ap outcome.Refused number
+
+pub answer-told : (arena : List ℕ) (worker : ℕ) {told : Outcome} → outcomeReply told ≡ turnAnswer arena worker →
+    told ≡ outcomeOf (turnOn arena worker)
+unfolding turnAnswer
+answer-told arena worker same = outcome-told _ (outcomeOf (turnOn arena worker)) same
 
 -- a refused turn changes no word
 pub refused-stays : (arena : List ℕ) (worker : ℕ) {number : ℕ} → turnAnswer arena worker ≡ refused number → turnArena arena worker ≡ arena

@@ -1,3 +1,5 @@
--- Laws of a worker's turn.
+-- Laws of refusals, of reports and of a worker's turn.
 pub mod Laws
+pub mod RefusalLaws
+pub mod ReportLaws
 pub mod TurnLaws

@@ -1,8 +1,7 @@
 -- What a turn that is done comes to: no test refused it, and it is the step of its stage, a row of the table.
 use Prim.Native.Nat.{ℕ}
 use mathlib.Core.Path.{_≡_, ap}
-use mathlib.Core.List.{List, [], _∷_}
-use mathlib.Core.Bool.{Bool, true, false, cond}
+use mathlib.Core.List.{List}
 use native.Mathlib.Omega.{arith}
 use lib.ListN.{getD}
 use Rattle.worker.specs.Refusals.{Refusal, judged}
@@ -14,16 +13,12 @@ use Rattle.worker.specs.declared.report.Report.the-variants.{Idle}
 use Rattle.worker.specs.declared.report.Step.{Step}
 use Rattle.worker.specs.declared.report.Turned.{Turned}
 use Rattle.worker.specs.declared.report.Turned.the-variants.{Refused, Done}
+use Rattle.worker.proofs.RefusalLaws.{judged-else}
 
 -- a judgement that is done was not refused
 pub judged-done : (rs : List Refusal) (accept : Turned) {step : Step} → judged rs Refused accept ≡ Done step → accept ≡ Done step
-judged-done [] accept e = e
-judged-done (r ∷ rs) accept {step} e = go (r .0) (λ others. judged-done rs accept others) e
-  where
-    go : (t : Bool) → (judged rs Refused accept ≡ Done step → accept ≡ Done step) →
-        cond t (Refused (r .1)) (judged rs Refused accept) ≡ Done step → accept ≡ Done step
-    go true others e = let z : _≡_ {A = ℕ} 0 1 = cc in absurd (omega arith)
-    go false others e = others e
+judged-done rs accept {step} =
+    judged-else rs Refused accept (Done step) (λ number same. let z : _≡_ {A = ℕ} 0 1 = cc in omega arith)
 
 pub done-step : (w : Worker) (owner : ℕ) (seen : Seen) {step : Step} → turnOf w owner seen ≡ Done step → step ≡ stepOf w owner seen
 unfolding turnOf

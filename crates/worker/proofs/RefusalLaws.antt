@@ -1,0 +1,32 @@
+-- Laws of the judgement by a list of refusals.
+use Prim.Native.Nat.{ℕ}
+use mathlib.Core.Path.{_≡_, refl, ap}
+use mathlib.Core.List.{List, [], _∷_, _++_}
+use mathlib.Core.Bool.{Bool, true, false, cond}
+use Rattle.worker.specs.Refusals.{Refusal, judged}
+
+-- what every outcome has, the judgement has
+pub judged-keeps : {A : Type 0} (P : A → Type 0) (rs : List Refusal) (refuse : ℕ → A) (accept : A) →
+    ((number : ℕ) → P (refuse number)) → P accept → P (judged rs refuse accept)
+judged-keeps P [] refuse accept p q = q
+judged-keeps {A} P (r ∷ rs) refuse accept p q = go (r .0) (judged rs refuse accept) (judged-keeps P rs refuse accept p q)
+  where
+    go : (t : Bool) (others : A) → P others → P (cond t (refuse (r .1)) others)
+    go true others more = p (r .1)
+    go false others more = more
+
+-- a list of refusals behind another
+pub judged-append : {A : Type 0} (rs ss : List Refusal) (refuse : ℕ → A) (accept : A) →
+    judged (rs ++ ss) refuse accept ≡ judged rs refuse (judged ss refuse accept)
+judged-append [] ss refuse accept = refl
+judged-append (r ∷ rs) ss refuse accept = ap (cond (r .0) (refuse (r .1))) (judged-append rs ss refuse accept)
+
+-- what no refusal gives was accepted
+pub judged-else : {A : Type 0} (rs : List Refusal) (refuse : ℕ → A) (accept other : A) → ((number : ℕ) → refuse number ≡ other → ⊥) →
+    judged rs refuse accept ≡ other → accept ≡ other
+judged-else [] refuse accept other out e = e
+judged-else {A} (r ∷ rs) refuse accept other out e = go (r .0) (judged rs refuse accept) (judged-else rs refuse accept other out) e
+  where
+    go : (t : Bool) (others : A) → (others ≡ other → accept ≡ other) → cond t (refuse (r .1)) others ≡ other → accept ≡ other
+    go true others more e = absurd (out (r .1) e)
+    go false others more e = more e
