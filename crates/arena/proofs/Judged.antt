@@ -5,7 +5,7 @@ use mathlib.Core.List.{List, [], _∷_, _++_}
 use mathlib.Core.Bool.{Bool, true, false, cond}
 use native.Mathlib.Omega.{arith}
 use Rattle.worker.specs.Refusals.{Refusal, judged}
-use Rattle.worker.proofs.RefusalLaws.{judged-append}
+use Rattle.worker.proofs.RefusalLaws.{NoneHolds, judged-append, judged-passed}
 use Rattle.arena.specs.Replies.{Reply, refused, accepted, replied}
 
 settled : {A : Type 0} → Reply → (ℕ → A) → A → A
@@ -33,25 +33,18 @@ module _ {A : Type 0} (rs : List Refusal) (values : List ℕ) (refuse : ℕ → 
   unfolding settled
   judged-accepted e = judged-by rs values refuse accept ∙ ap (λ (r : Reply). settled r refuse accept) (sym e)
 
--- where a list refuses nothing, no test of it holds
-abbrev pub NoneHolds : List Refusal → Type 0
-NoneHolds [] = Unit {0}
-NoneHolds (r ∷ rs) = (r .0 ≡ false) × NoneHolds rs
+-- where a list refuses nothing, no test of it holds, and what is given are the values
+passed : (rs : List Refusal) (values : List ℕ) {given : List ℕ} → accepted given ≡ replied rs values →
+    NoneHolds rs × (accepted values ≡ accepted given)
+passed rs values {given} e =
+    judged-passed rs refused (accepted values) (accepted given)
+    (λ number same. let z : _≡_ {A = ℕ} 0 1 = cc in omega arith) (sym e)
 
 pub none-holds : (rs : List Refusal) (values : List ℕ) {given : List ℕ} → accepted given ≡ replied rs values → NoneHolds rs
-none-holds [] values e = tt
-none-holds (r ∷ rs) values {given} e = go (r .0) (λ k. none-holds rs values k) e
-  where
-    go : (t : Bool) → (accepted given ≡ replied rs values → NoneHolds rs) →
-        accepted given ≡ cond t (refused (r .1)) (replied rs values) → (t ≡ false) × NoneHolds rs
-    go true more e = let z : _≡_ {A = ℕ} 0 1 = cc in absurd (omega arith)
-    go false more e = (refl, more e)
+none-holds rs values e = passed rs values e .0
 
--- and what is given are the values
 pub given-values : (rs : List Refusal) (values : List ℕ) {given : List ℕ} → accepted given ≡ replied rs values → given ≡ values
-given-values rs values {given} e =
-    let same : accepted given ≡ accepted values = e ∙ judged-accepted rs values refused (accepted values) e in
-    cc
+given-values rs values {given} e = let same : accepted values ≡ accepted given = passed rs values e .1 in cc
 
 module _ {A : Type 0} (rs ss : List Refusal) (values : List ℕ) (refuse : ℕ → A) (accept : A) where
   pub refused-first : {number : ℕ} → refused number ≡ replied rs values → judged (rs ++ ss) refuse accept ≡ refuse number

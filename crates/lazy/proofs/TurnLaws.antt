@@ -85,7 +85,7 @@ pub turn-steps : (arena : List ℕ) (worker : ℕ) {step : Step} → turnOn aren
 unfolding turnOn
 turn-steps arena worker e =
     done-step (workerAt arena worker) (suc worker) (seenBy arena (workerAt arena worker))
-    (judged-done (workerRefusals arena worker) (turnOf (workerAt arena worker) (suc worker) (seenBy arena (workerAt arena worker))) e)
+    (judged-done (workerRefusals arena worker) (turnOf (workerAt arena worker) (suc worker) (seenBy arena (workerAt arena worker))) e .1)
 
 -- document 01: some run of next links leads to the node from node 0, node 1, or a pred, curr or spare
 abbrev pub ReachedIn : List ℕ → ℕ → Type 0

@@ -3,3 +3,4 @@ pub mod Laws
 pub mod RefusalLaws
 pub mod ReportLaws
 pub mod TurnLaws
+pub mod EffectLaws

@@ -21,12 +21,18 @@ pub judged-append : {A : Type 0} (rs ss : List Refusal) (refuse : ℕ → A) (ac
 judged-append [] ss refuse accept = refl
 judged-append (r ∷ rs) ss refuse accept = ap (cond (r .0) (refuse (r .1))) (judged-append rs ss refuse accept)
 
--- what no refusal gives was accepted
-pub judged-else : {A : Type 0} (rs : List Refusal) (refuse : ℕ → A) (accept other : A) → ((number : ℕ) → refuse number ≡ other → ⊥) →
-    judged rs refuse accept ≡ other → accept ≡ other
-judged-else [] refuse accept other out e = e
-judged-else {A} (r ∷ rs) refuse accept other out e = go (r .0) (judged rs refuse accept) (judged-else rs refuse accept other out) e
+-- no test of a list holds
+abbrev pub NoneHolds : List Refusal → Type 0
+NoneHolds [] = Unit {0}
+NoneHolds (r ∷ rs) = (r .0 ≡ false) × NoneHolds rs
+
+-- where a judgement is what no refusal gives, no test holds, and it is what is accepted
+pub judged-passed : {A : Type 0} (rs : List Refusal) (refuse : ℕ → A) (accept other : A) → ((number : ℕ) → refuse number ≡ other → ⊥) →
+    judged rs refuse accept ≡ other → NoneHolds rs × (accept ≡ other)
+judged-passed [] refuse accept other out e = (tt, e)
+judged-passed {A} (r ∷ rs) refuse accept other out e = go (r .0) (judged rs refuse accept) (judged-passed rs refuse accept other out) e
   where
-    go : (t : Bool) (others : A) → (others ≡ other → accept ≡ other) → cond t (refuse (r .1)) others ≡ other → accept ≡ other
+    go : (t : Bool) (others : A) → (others ≡ other → NoneHolds rs × (accept ≡ other)) → cond t (refuse (r .1)) others ≡ other →
+        ((t ≡ false) × NoneHolds rs) × (accept ≡ other)
     go true others more e = absurd (out (r .1) e)
-    go false others more e = more e
+    go false others more e = let passed = more e in ((refl, passed .0), passed .1)

@@ -13,17 +13,18 @@ use Rattle.worker.specs.declared.report.Report.the-variants.{Idle}
 use Rattle.worker.specs.declared.report.Step.{Step}
 use Rattle.worker.specs.declared.report.Turned.{Turned}
 use Rattle.worker.specs.declared.report.Turned.the-variants.{Refused, Done}
-use Rattle.worker.proofs.RefusalLaws.{judged-else}
+use Rattle.worker.proofs.RefusalLaws.{NoneHolds, judged-passed}
 
--- a judgement that is done was not refused
-pub judged-done : (rs : List Refusal) (accept : Turned) {step : Step} → judged rs Refused accept ≡ Done step → accept ≡ Done step
+-- a judgement that is done passed every test
+pub judged-done : (rs : List Refusal) (accept : Turned) {step : Step} → judged rs Refused accept ≡ Done step →
+    NoneHolds rs × (accept ≡ Done step)
 judged-done rs accept {step} =
-    judged-else rs Refused accept (Done step) (λ number same. let z : _≡_ {A = ℕ} 0 1 = cc in omega arith)
+    judged-passed rs Refused accept (Done step) (λ number same. let z : _≡_ {A = ℕ} 0 1 = cc in omega arith)
 
 pub done-step : (w : Worker) (owner : ℕ) (seen : Seen) {step : Step} → turnOf w owner seen ≡ Done step → step ≡ stepOf w owner seen
 unfolding turnOf
 done-step w owner seen {step} e =
-    let done : Done (stepOf w owner seen) ≡ Done step = judged-done (turnRefusals w seen) (Done (stepOf w owner seen)) e in
+    let done : Done (stepOf w owner seen) ≡ Done step = judged-done (turnRefusals w seen) (Done (stepOf w owner seen)) e .1 in
     cc
 
 pub step-row : (w : Worker) (owner : ℕ) (seen : Seen) {stage : ℕ} → w .stage ≡ stage →

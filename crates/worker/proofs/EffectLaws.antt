@@ -1,0 +1,144 @@
+-- A turn that is done writes only to nodes that there are.
+use Prim.Native.Nat.{ℕ, zero, suc, _+_, _<_}
+use mathlib.Core.Path.{_≡_, subst, sym, _∙_}
+use mathlib.Core.List.{List, [], _∷_}
+use mathlib.Core.Bool.{Bool, true, false, cond, not, _&&_, _||_}
+use mathlib.Mathlib.Data.Bool.Basic.{and-elim-left, and-elim-right}
+use native.Mathlib.Decide.{ℕ-discrete}
+use native.Mathlib.Nat.{zero-add, add-zero, add-suc, suc-add}
+use lib.ListN.{getD}
+use lib.Dec.{ltb, eqb}
+use borrow.Author.Tests.{ltb-true, not-false, ne-eqb}
+use Rattle.worker.specs.Worker.{add}
+use Rattle.worker.specs.Stages.{reports, goes, to, locks, denies, takes, stageTable, stepOf}
+use Rattle.worker.specs.Turn.{readsPred, readsCurr, readsSpare, placed, busyRefusals, turnRefusals, turnOf}
+use Rattle.worker.specs.declared.Worker.{Worker}
+use Rattle.worker.specs.declared.report.Free.{Free}
+use Rattle.worker.specs.declared.report.Free.the-variants as free
+use Rattle.worker.specs.declared.report.Seen.{Seen}
+use Rattle.worker.specs.declared.report.Report.the-variants.{Idle, Waits}
+use Rattle.worker.specs.declared.report.Step.{Step}
+use Rattle.worker.specs.declared.report.Effect.{Effect}
+use Rattle.worker.specs.declared.report.Effect.the-variants.{Nothing, SetOwner, SetNext, SetMark, Fill}
+use Rattle.worker.specs.declared.report.Turned.the-variants.{Done}
+use Rattle.worker.proofs.RefusalLaws.{NoneHolds}
+use Rattle.worker.proofs.TurnLaws.{judged-done, done-step, step-row}
+
+-- the node of an effect is below N
+abbrev pub EffectBelow : ℕ → Effect → Type 0
+EffectBelow count Nothing = Unit {0}
+EffectBelow count (SetOwner node owner) = node < count
+EffectBelow count (SetNext node next) = node < count
+EffectBelow count (SetMark node) = node < count
+EffectBelow count (Fill node key next) = node < count
+
+-- and so is a free node that was found
+abbrev pub FreeBelow : ℕ → Free → Type 0
+FreeBelow count free.None = Unit {0}
+FreeBelow count (free.Node node) = node < count
+
+-- a claim of every row, each with its number
+infixr 5 _then_
+data AllFrom (P : ℕ → Step → Type 0) : ℕ → List Step → Type 0 where
+  end : {n : ℕ} → AllFrom P n []
+  _then_ : {n : ℕ} {step : Step} {steps : List Step} → P n step → AllFrom P (suc n) steps → AllFrom P n (step ∷ steps)
+
+row-of : (P : ℕ → Step → Type 0) (n k : ℕ) {steps : List Step} (default : Step) → AllFrom P n steps → ((m : ℕ) → P m default) →
+    P (n + k) (getD steps k default)
+row-of P n k default end other = other (n + k)
+row-of P n zero default (this then rest) other = rw add-zero this
+row-of P n (suc k) default (this then rest) other = rw (add-suc, ← suc-add) (row-of P (suc n) k default rest other)
+
+either-way : (count : ℕ) (t : Bool) (a b : Step) → EffectBelow count (a .effect) → EffectBelow count (b .effect) →
+    EffectBelow count (cond t a b .effect)
+either-way count true a b p q = p
+either-way count false a b p q = q
+
+module _ (w : Worker) (owner : ℕ) (seen : Seen) where
+  -- the test on node numbers, at a stage
+  abbrev placedAt : ℕ → Bool
+  placedAt stage =
+      (not (readsPred stage) || ltb (w .pred) (seen .count))
+      && (not (readsCurr stage) || ltb (w .curr) (seen .count))
+      && (not (readsSpare stage) || ltb (w .spare) (seen .count))
+
+  abbrev Below : ℕ → Step → Type 0
+  Below stage step = placedAt stage ≡ true → EffectBelow (seen .count) (step .effect)
+
+  takes-below : (found : Free) → FreeBelow (seen .count) found → EffectBelow (seen .count) (takes w found .effect)
+  takes-below free.None below = tt
+  takes-below (free.Node node) below = below
+
+  -- a stage that reads pred, and one that reads curr and not pred
+  pred-below : (a b : Bool) → (ltb (w .pred) (seen .count) && a) && b ≡ true → w .pred < seen .count
+  pred-below a b e = ltb-true (w .pred) (seen .count) (and-elim-left _ a (and-elim-left _ b e))
+
+  curr-below : (a : Bool) → ltb (w .curr) (seen .count) && a ≡ true → w .curr < seen .count
+  curr-below a e = ltb-true (w .curr) (seen .count) (and-elim-left _ a e)
+
+  locks-below : (node holder stage : ℕ) → node < seen .count → EffectBelow (seen .count) (locks w node holder owner stage .effect)
+  locks-below node holder stage below = either-way (seen .count) (eqb holder 0) (goes w stage (SetOwner node owner)) (reports w Waits) below tt
+
+  rows-below : FreeBelow (seen .count) (seen .free) → AllFrom Below 0 (stageTable w owner seen)
+  rows-below found =
+      (λ e. tt)
+      then (λ e. tt)
+      then (λ e. tt)
+      then (λ e. tt)
+      then (λ e. tt)
+      then (λ e. tt)
+      then (λ e. locks-below (w .pred) (seen .pred .owner) 7 (pred-below _ _ e))
+      then (λ e. locks-below (w .curr) (seen .curr .owner) 8 (curr-below _ e))
+      then (λ e. tt)
+      then (λ e. tt)
+      then (λ e. tt)
+      then (λ e. pred-below _ _ e)
+      then (λ e. curr-below _ e)
+      then (λ e. decides-below (eqb (w .operation) add) (eqb (seen .curr .key) (w .key)))
+      then (λ e. takes-below (seen .free) found)
+      then (λ e. pred-below _ _ e)
+      then (λ e. curr-below _ e)
+      then (λ e. tt)
+      then (λ e. pred-below _ _ e)
+      then (λ e. pred-below _ _ e)
+      then (λ e. curr-below _ e)
+      then (λ e. tt)
+      then (λ e. tt)
+      then (λ e. compares-below (ltb (seen .curr .key) (w .key)) (eqb (seen .curr .key) (w .key)))
+      then (λ e. tt)
+      then (λ e. tt)
+      then end
+    where
+      decides-below : (adds found : Bool) →
+          EffectBelow (seen .count) (cond adds (cond found (denies w 19) (to w 14)) (cond found (to w 16) (denies w 19)) .effect)
+      decides-below true true = tt
+      decides-below true false = tt
+      decides-below false true = tt
+      decides-below false false = tt
+
+      compares-below : (below equal : Bool) → EffectBelow (seen .count) (cond below (to w 24) (cond equal (to w 25) (denies w 21)) .effect)
+      compares-below true equal = tt
+      compares-below false true = tt
+      compares-below false false = tt
+
+  step-below : (stage : ℕ) → placedAt stage ≡ true → FreeBelow (seen .count) (seen .free) →
+      EffectBelow (seen .count) (getD (stageTable w owner seen) stage (reports w Idle) .effect)
+  step-below stage e found =
+      let row : Below (0 + stage) (getD (stageTable w owner seen) stage (reports w Idle)) =
+      row-of Below 0 stage (reports w Idle) (rows-below found) (λ m passed. tt) in
+      row (rw zero-add e)
+
+  -- the effect of a turn that is done is on a node below N
+  pub done-below : {step : Step} → turnOf w owner seen ≡ Done step → FreeBelow (seen .count) (seen .free) →
+      EffectBelow (seen .count) (step .effect)
+  unfolding turnOf turnRefusals busyRefusals placed stepOf
+  done-below {step} e found =
+      let same = done-step w owner seen e in
+      let Has : Step → Type 0 = λ t. EffectBelow (seen .count) (t .effect) in
+      elim (ℕ-discrete (w .stage) 0) [
+        | yes q ↦ subst Has (sym (same ∙ step-row w owner seen q)) tt
+        | no q ↦
+            let passed = judged-done (turnRefusals w seen) (Done (stepOf w owner seen)) e .0 in
+            let none = subst (λ (t : Bool). NoneHolds (cond t [] (busyRefusals w seen))) (ne-eqb (w .stage) 0 q) passed in
+            subst Has (sym same) (step-below (w .stage) (not-false _ (none .1 .1 .1 .0)) found)
+      ]
