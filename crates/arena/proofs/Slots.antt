@@ -13,6 +13,10 @@ module _ (width : ℕ) where
       let more : width * suc n ≡ width * n + width = mul-suc width n in
       omega arith
 
+  -- a slot of one of so many nodes is among their words
+  pub slot-within : (n count f : ℕ) → n < count → f < width → slot width n f < width * count
+  slot-within n count f h k = let below = slot-below n count f 0 h k in omega arith
+
   pub slot-same : (n m f g : ℕ) → f < width → g < width → slot width n f ≡ slot width m g → (n ≡ m) × (f ≡ g)
   slot-same n m f g h k e =
       elim (decLt n m) [

@@ -1,7 +1,8 @@
--- Laws of the search for a free node and of a turn on an arena, and the lemmas of their proofs.
+-- Laws of the search for a free node and of a turn on an arena, and the lemmas behind them.
 pub mod Rows
 pub mod ShortRuns
 pub mod FreeLaws
 pub mod Walk
 pub mod Search
 pub mod TurnLaws
+pub mod InsideLaws

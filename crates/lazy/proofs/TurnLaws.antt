@@ -1,13 +1,15 @@
 -- What a turn on an arena does and what it leaves: for those who build on it.
 use Prim.Native.Nat.{ℕ, suc, _<_}
-use mathlib.Core.Path.{_≡_, refl, ap, _∙_}
+use mathlib.Core.Path.{_≡_, refl, sym, ap, _∙_}
 use mathlib.Core.Logic.{_⊎_, inl, inr}
-use mathlib.Core.List.{List}
+use mathlib.Core.List.{List, [], _∷_}
 use mathlib.Core.Bool.{cond}
 use native.Mathlib.Omega.{arith}
 use lib.Seq.{getD-set-other}
-use lib.Dec.{eqb}
+use lib.Dec.{leb, eqb}
+use borrow.Author.Tests.{leb-false}
 use Rattle.worker.specs.Node.{newNode}
+use Rattle.worker.specs.Refusals.{Refusal, judged, noSuchWorker}
 use Rattle.worker.specs.Report.{answerNumber, reportValues}
 use Rattle.worker.specs.Stages.{takes, stepOf}
 use Rattle.worker.specs.Turn.{turnOf}
@@ -20,11 +22,14 @@ use Rattle.worker.specs.declared.report.Effect.{Effect}
 use Rattle.worker.specs.declared.report.Effect.the-variants as effect
 use Rattle.worker.specs.declared.report.Turned.{Turned}
 use Rattle.worker.specs.declared.report.Turned.the-variants as turned
+use Rattle.worker.proofs.RefusalLaws.{judged-append, none-accepts}
 use Rattle.worker.proofs.ReportLaws.{report-told}
 use Rattle.worker.proofs.TurnLaws.{judged-done, done-step, step-row}
 use Rattle.arena.specs.Layout.{word, layoutOf, workersOf, nodesOf, nodeWidth, nodePart, nodeFrom, nodeKey, nodeNext, nodeMark, nodeOwner}
 use Rattle.arena.specs.Records.{workerAt, nodeWords, nextAt}
-use Rattle.arena.specs.Replies.{refused}
+use Rattle.arena.specs.Replies.{refused, accepted}
+use Rattle.arena.specs.Header.{headerRefusals}
+use Rattle.arena.proofs.HeaderLaws.{Header, header-holds}
 use Rattle.arena.proofs.Runs.{sets-outside}
 use Rattle.arena.proofs.RecordLaws.{Outside, others-stay}
 use Rattle.lazy.specs.Free.{rootsOf, Reached, lowestFree}
@@ -79,13 +84,31 @@ unfolding turnArena
 turn-leaves arena worker at {step} e outside out =
     rw e (others-stay (withEffect arena (step .effect)) worker (step .worker) at outside ∙ effect-leaves arena (step .effect) at out)
 
--- a turn that is done is the step of the worker's stage
+-- what a turn that is done tells of its arena: the header is in order, there is such a worker, and its own turn is done
+pub record Accepted (arena : List ℕ) (worker : ℕ) (step : Step) : Type 0 where
+  pub header : Header arena
+  pub known : worker < workersOf arena
+  pub done : turnOf (workerAt arena worker) (suc worker) (seenBy arena (workerAt arena worker)) ≡ turned.Done step
+
+pub turn-accepted : (arena : List ℕ) (worker : ℕ) {step : Step} → turnOn arena worker ≡ turned.Done step → Accepted arena worker step
+unfolding turnOn workerRefusals
+turn-accepted arena worker {step} e =
+    let own = turnOf (workerAt arena worker) (suc worker) (seenBy arena (workerAt arena worker)) in
+    let unknown : List Refusal = (leb (workersOf arena) worker, noSuchWorker) ∷ [] in
+    let first = judged-done (headerRefusals arena) (judged unknown turned.Refused own)
+    (sym (judged-append (headerRefusals arena) unknown turned.Refused own) ∙ e) in
+    let second = judged-done unknown own (first .1) in
+    record {
+      header = header-holds arena (sym (none-accepts (headerRefusals arena) refused (accepted []) (first .0)));
+      known = leb-false (workersOf arena) worker (second .0 .0);
+      done = second .1;
+    }
+
+-- and it is the step of the worker's stage
 pub turn-steps : (arena : List ℕ) (worker : ℕ) {step : Step} → turnOn arena worker ≡ turned.Done step →
     step ≡ stepOf (workerAt arena worker) (suc worker) (seenBy arena (workerAt arena worker))
-unfolding turnOn
 turn-steps arena worker e =
-    done-step (workerAt arena worker) (suc worker) (seenBy arena (workerAt arena worker))
-    (judged-done (workerRefusals arena worker) (turnOf (workerAt arena worker) (suc worker) (seenBy arena (workerAt arena worker))) e .1)
+    done-step (workerAt arena worker) (suc worker) (seenBy arena (workerAt arena worker)) (turn-accepted arena worker e .done)
 
 -- document 01: some run of next links leads to the node from node 0, node 1, or a pred, curr or spare
 abbrev pub ReachedIn : List ℕ → ℕ → Type 0

@@ -36,3 +36,8 @@ judged-passed {A} (r ∷ rs) refuse accept other out e = go (r .0) (judged rs re
         ((t ≡ false) × NoneHolds rs) × (accept ≡ other)
     go true others more e = absurd (out (r .1) e)
     go false others more e = let passed = more e in ((refl, passed .0), passed .1)
+
+-- and the other way round
+pub none-accepts : {A : Type 0} (rs : List Refusal) (refuse : ℕ → A) (accept : A) → NoneHolds rs → judged rs refuse accept ≡ accept
+none-accepts [] refuse accept none = refl
+none-accepts (r ∷ rs) refuse accept none = rw (none .0) (none-accepts rs refuse accept (none .1))
