@@ -1,4 +1,4 @@
--- What a turn reports and does to the nodes, in document 01's numbers and values.
+-- What a turn reports, in document 01's numbers and values.
 use Prim.Native.Nat.{ℕ}
 use mathlib.Core.List.{List, [], _∷_}
 use mathlib.Core.Bool.{cond}
