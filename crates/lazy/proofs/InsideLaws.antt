@@ -42,13 +42,13 @@ effect-below arena worker e =
     go true (free.Node node) same = lowest-found next (nodesOf arena) roots same .0
     go false found same = tt
 
--- every layout there is has room for the four fields
-fields-fit : (layout : ℕ) → layout ≡ layoutNumber → 4 ≤ nodeWidth layout
+-- the last field has room in every layout there is
+fields-fit : (layout : ℕ) → layout ≡ layoutNumber → nodeOwner < nodeWidth layout
 unfolding nodeWidth
 fields-fit layout same = rw same (omega arith)
 
 -- a field of a node below N stands among the node records
-field-inside : (arena : List ℕ) (node field : ℕ) → Header arena → node < nodesOf arena → field < 4 →
+field-inside : (arena : List ℕ) (node field : ℕ) → Header arena → node < nodesOf arena → field ≤ nodeOwner →
     (nodesFromOf arena ≤ nodeFrom arena node field) × (nodeFrom arena node field < totalOf arena)
 unfolding nodeFrom
 field-inside arena node field header below fits =
@@ -65,7 +65,7 @@ module _ (arena : List ℕ) (worker at : ℕ) where
   outside known header (inl before) = before .1
   outside known header (inr behind) = inr (omega (arith, header .end))
 
-  away : (node field : ℕ) → Header arena → Elsewhere arena worker at → node < nodesOf arena → field < 4 →
+  away : (node field : ℕ) → Header arena → Elsewhere arena worker at → node < nodesOf arena → field ≤ nodeOwner →
       at ≡ nodeFrom arena node field → ⊥
   away node field header (inl before) below fits e =
       let inside = field-inside arena node field header below fits in omega (arith, before .0, inside .0, header .from)

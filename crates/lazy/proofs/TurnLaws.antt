@@ -1,5 +1,5 @@
 -- What a turn on an arena does and what it leaves: for those who build on it.
-use Prim.Native.Nat.{ℕ, suc, _<_}
+use Prim.Native.Nat.{ℕ, suc, _<_, _≤_}
 use mathlib.Core.Path.{_≡_, refl, sym, ap, _∙_}
 use mathlib.Core.Logic.{_⊎_, inl, inr}
 use mathlib.Core.List.{List, [], _∷_}
@@ -60,13 +60,13 @@ refused-stays arena worker {number} e = go (turnOn arena worker) e
     go (turned.Done step) e = let z : _≡_ {A = ℕ} 0 1 = cc in absurd (omega arith)
     go (turned.Refused n) e = refl
 
--- a place that an effect writes: a field of its node, or all four
+-- a place that an effect writes: a field of its node, or all of them
 abbrev pub Touches : List ℕ → Effect → ℕ → Type 0
 Touches arena effect.Nothing at = ⊥
 Touches arena (effect.SetOwner node owner) at = at ≡ nodeFrom arena node nodeOwner
 Touches arena (effect.SetNext node next) at = at ≡ nodeFrom arena node nodeNext
 Touches arena (effect.SetMark node) at = at ≡ nodeFrom arena node nodeMark
-Touches arena (effect.Fill node key next) at = (field : ℕ) × (field < 4) × (at ≡ nodeFrom arena node field)
+Touches arena (effect.Fill node key next) at = (field : ℕ) × (field ≤ nodeOwner) × (at ≡ nodeFrom arena node field)
 
 effect-leaves : (arena : List ℕ) (e : Effect) (at : ℕ) → (Touches arena e at → ⊥) → word (withEffect arena e) at ≡ word arena at
 unfolding withEffect nodeFrom
@@ -75,7 +75,7 @@ effect-leaves arena (effect.SetOwner node owner) at out = getD-set-other arena (
 effect-leaves arena (effect.SetNext node next) at out = getD-set-other arena (nodeFrom arena node nodeNext) at next 0 out
 effect-leaves arena (effect.SetMark node) at out = getD-set-other arena (nodeFrom arena node nodeMark) at 1 0 out
 effect-leaves arena (effect.Fill node key next) at out =
-    sets-outside (nodeWords (newNode key next)) arena (nodeFrom arena node nodeKey) at (λ k h e. out (k, h, omega arith))
+    sets-outside (nodeWords (newNode key next)) arena (nodeFrom arena node nodeKey) at (λ k h e. out (k, omega arith, omega arith))
 
 -- a turn leaves every word but the worker's own record and what its effect writes
 pub turn-leaves : (arena : List ℕ) (worker at : ℕ) {step : Step} → turnOn arena worker ≡ turned.Done step →
