@@ -17,7 +17,8 @@ use worker::Worker;
 // The lowest-numbered free node (document 01: the hunt). The node records are handed on as their part of the arena.
 pub(crate) fn find_free(arena: &[u16], nodes: &[u16], width: u16, count: u16) -> Free
     requires { ⌜ count ≤ 1024 ⌝ }
-    ensures { λ r. ⌜ r ≡ lowestFree (nextAt width (now (nodes .entry))) count (rootsOf (workerAt (now (arena .entry))) (workersOf (now (arena .entry)))) ⌝ }
+    ensures { λ r. ⌜ r ≡ lowestFree (nextAt width (now (nodes .entry))) count
+        (rootsOf (workerAt (now (arena .entry))) (workersOf (now (arena .entry)))) ⌝ }
 {
     let workers = words::word(arena, layout::WORKERS_AT);
     let mut reached = [false; 1024];
@@ -40,7 +41,8 @@ pub(crate) fn find_free(arena: &[u16], nodes: &[u16], width: u16, count: u16) ->
 // Walks the next links from a root. Where a node was reached before, so was all that follows it.
 fn reach_from(reached: &mut [bool], nodes: &[u16], width: u16, count: u16, root: u16)
     requires { ⌜ Closed (nextAt width (now nodes)) count (now reached) ⌝ }
-    ensures { λ _. ⌜ Reaches (nextAt width (now (nodes .entry))) count (root ∷ []) (now (reached .entry)) (now (reached .exit)) ⌝ }
+    ensures { λ _. ⌜ Reaches (nextAt width (now (nodes .entry))) count (root ∷ [])
+        (now (reached .entry)) (now (reached .exit)) ⌝ }
 {
     let mut node = root;
     while node < count {
@@ -56,7 +58,8 @@ fn reach_from(reached: &mut [bool], nodes: &[u16], width: u16, count: u16, root:
 // The same from the three roots that a worker holds.
 fn reach_worker(reached: &mut [bool], nodes: &[u16], width: u16, count: u16, worker: Worker)
     requires { ⌜ Closed (nextAt width (now nodes)) count (now reached) ⌝ }
-    ensures { λ _. ⌜ Reaches (nextAt width (now (nodes .entry))) count (worker .pred ∷ worker .curr ∷ worker .spare ∷ []) (now (reached .entry)) (now (reached .exit)) ⌝ }
+    ensures { λ _. ⌜ Reaches (nextAt width (now (nodes .entry))) count (worker .pred ∷ worker .curr ∷ worker .spare ∷ [])
+        (now (reached .entry)) (now (reached .exit)) ⌝ }
 {
     reach_from(reached, nodes, width, count, worker.pred);
     reach_from(reached, nodes, width, count, worker.curr);
@@ -66,7 +69,8 @@ fn reach_worker(reached: &mut [bool], nodes: &[u16], width: u16, count: u16, wor
 // The lowest node that was not reached: the lowest free one, whatever the links and the roots were.
 fn lowest_unreached(reached: &[bool], count: u16) -> Free
     requires { ⌜ count ≤ length (now reached) ⌝ }
-    ensures { λ r. ⌜ ((next : ℕ → ℕ) (roots : List ℕ) → Reaches next count roots emptyRow (now (reached .entry)) → r ≡ lowestFree next count roots) ⌝ }
+    ensures { λ r. ⌜ ((next : ℕ → ℕ) (roots : List ℕ) → Reaches next count roots emptyRow (now (reached .entry)) →
+        r ≡ lowestFree next count roots) ⌝ }
 {
     let mut node = 0;
     while node < count {

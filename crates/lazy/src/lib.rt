@@ -76,7 +76,8 @@ fn see(arena: &[u16], state: Worker) -> Seen
 // The node records are handed on as their part of the arena. Only the stage that takes a free node looks for one.
 fn look(arena: &[u16], nodes: &[u16], width: u16, count: u16, state: Worker) -> Seen
     requires { ⌜ count ≤ 1024 ⌝ }
-    ensures { λ r. ⌜ r ≡ seenOf (workerAt (now (arena .entry))) (workersOf (now (arena .entry))) (nodeAt width (now (nodes .entry))) count state ⌝ }
+    ensures { λ r. ⌜ r ≡ seenOf (workerAt (now (arena .entry))) (workersOf (now (arena .entry)))
+        (nodeAt width (now (nodes .entry))) count state ⌝ }
 {
     let pred = records::read_node(nodes, width, state.pred);
     let curr = records::read_node(nodes, width, state.curr);
