@@ -14,14 +14,14 @@ use borrow.Author.Tests.{eqb-true, ne-eqb, ltb-true}
 use Rattle.worker.specs.declared.report.Free.the-variants as free
 use Rattle.lazy.specs.Free.{Run, here, on, Reached, leads, reached, lowestFrom, lowestFree}
 use Rattle.lazy.proofs.Rows.{missing-at-most}
-use Rattle.lazy.proofs.ShortRuns.{outside-none, outside-leads}
+use Rattle.lazy.proofs.ShortRuns.{avoids-none, avoids-leads}
 
 module _ (next : ℕ → ℕ) (count : ℕ) where
   -- what a run of any length leads to, a run of at most N links leads to
   pub run-leads : {root node : ℕ} → Run next count root node → node < count → leads next count count root node ≡ true
   run-leads run h =
-      outside-leads next count count (replicate count false) (rw length-replicate (le-refl count))
-      (missing-at-most count (replicate count false)) (outside-none next count count run h)
+      avoids-leads next count count (replicate count false) (rw length-replicate (le-refl count))
+      (missing-at-most count (replicate count false)) (avoids-none next count count run h)
 
   -- where the test says so, there is a run
   pub leads-run : (links root node : ℕ) → leads next count links root node ≡ true → Run next count root node

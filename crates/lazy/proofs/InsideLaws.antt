@@ -14,32 +14,25 @@ use Rattle.worker.specs.declared.report.Effect.the-variants as effect
 use Rattle.worker.specs.declared.report.Turned.{Turned}
 use Rattle.worker.specs.declared.report.Turned.the-variants as turned
 use Rattle.worker.proofs.EffectLaws.{EffectBelow, FreeBelow, done-below}
-use Rattle.arena.specs.Layout.{word, layoutNumber, layoutOf, workersOf, nodesOf, nodesFrom, nodesFromOf, totalOf, nodeWidth, nodePart, nodeFrom, nodeNext, nodeMark, nodeOwner}
-use Rattle.arena.specs.Records.{workerAt, nextAt}
+use Rattle.arena.specs.Layout.{word, layoutNumber, layoutOf, workersOf, nodesOf, nodesFrom, nodesFromOf, totalOf, nodeWidth, nodeFrom, nodeNext, nodeMark, nodeOwner}
+use Rattle.arena.specs.Records.{workerAt}
 use Rattle.arena.proofs.HeaderLaws.{Header}
 use Rattle.arena.proofs.Slots.{slot-within}
 use Rattle.arena.proofs.RecordLaws.{Outside}
-use Rattle.lazy.specs.Free.{rootsOf, lowestFree}
 use Rattle.lazy.specs.Turn.{seenOf, seenBy, turnOn, turnArena}
 use Rattle.lazy.proofs.FreeLaws.{lowest-found}
-use Rattle.lazy.proofs.TurnLaws.{Touches, turn-leaves, turn-accepted}
+use Rattle.lazy.proofs.TurnLaws.{Touches, turn-leaves, turn-accepted, nextIn, rootsIn, lowestFreeIn}
 
 -- the node of a turn's effect is below N
 effect-below : (arena : List ℕ) (worker : ℕ) {step : Step} → turnOn arena worker ≡ turned.Done step → EffectBelow (nodesOf arena) (step .effect)
 unfolding seenBy seenOf
 effect-below arena worker e =
     done-below (workerAt arena worker) (suc worker) (seenBy arena (workerAt arena worker)) (turn-accepted arena worker e .done)
-    (go (eqb (workerAt arena worker .stage) 14) (lowestFree next (nodesOf arena) roots) refl)
+    (go (eqb (workerAt arena worker .stage) 14) (lowestFreeIn arena) refl)
   where
-    next : ℕ → ℕ
-    next = nextAt (nodeWidth (layoutOf arena)) (nodePart arena)
-
-    roots : List ℕ
-    roots = rootsOf (workerAt arena) (workersOf arena)
-
-    go : (t : Bool) (found : Free) → lowestFree next (nodesOf arena) roots ≡ found → FreeBelow (nodesOf arena) (cond t found free.None)
+    go : (t : Bool) (found : Free) → lowestFreeIn arena ≡ found → FreeBelow (nodesOf arena) (cond t found free.None)
     go true free.None same = tt
-    go true (free.Node node) same = lowest-found next (nodesOf arena) roots same .0
+    go true (free.Node node) same = lowest-found (nextIn arena) (nodesOf arena) (rootsIn arena) same .0
     go false found same = tt
 
 -- the last field has room in every layout there is

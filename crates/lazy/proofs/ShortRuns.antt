@@ -17,36 +17,36 @@ use Rattle.lazy.proofs.Rows.{missing, one-less, holds-none}
 
 module _ (next : ℕ → ℕ) (count : ℕ) where
   -- a run through nodes that a row does not hold
-  pub data Outside (row : List Bool) : ℕ → ℕ → Type 0 where
-    last : {node : ℕ} → node < count → holds row node ≡ false → Outside row node node
-    link : {from node : ℕ} → from < count → holds row from ≡ false → Outside row (next from) node → Outside row from node
+  pub data Avoids (row : List Bool) : ℕ → ℕ → Type 0 where
+    last : {node : ℕ} → node < count → holds row node ≡ false → Avoids row node node
+    link : {from node : ℕ} → from < count → holds row from ≡ false → Avoids row (next from) node → Avoids row from node
 
-  pub outside-none : {from node : ℕ} (size : ℕ) → Run next count from node → node < count →
-      Outside (replicate size false) from node
-  outside-none {node} size here h = last h (holds-none size node)
-  outside-none {from} size (on k run) h = link k (holds-none size from) (outside-none size run h)
+  pub avoids-none : {from node : ℕ} (size : ℕ) → Run next count from node → node < count →
+      Avoids (replicate size false) from node
+  avoids-none {node} size here h = last h (holds-none size node)
+  avoids-none {from} size (on k run) h = link k (holds-none size from) (avoids-none size run h)
 
-  begins : {row : List Bool} {from node : ℕ} → Outside row from node → (from < count) × (holds row from ≡ false)
+  begins : {row : List Bool} {from node : ℕ} → Avoids row from node → (from < count) × (holds row from ≡ false)
   begins (last h e) = (h, e)
   begins (link h e run) = (h, e)
 
   -- either a run never comes to a node, or the part of it after the last time never does
-  cut : (row : List Bool) (at : ℕ) {from node : ℕ} → (node ≡ at → ⊥) → Outside row from node →
-      Outside (set row at true) from node ⊎ Outside (set row at true) (next at) node
+  cut : (row : List Bool) (at : ℕ) {from node : ℕ} → (node ≡ at → ⊥) → Avoids row from node →
+      Avoids (set row at true) from node ⊎ Avoids (set row at true) (next at) node
   cut row at {node} ends (last h e) = inl (last h (getD-set-other row at node true false ends ∙ e))
   cut row at {from} {node} ends (link h e run) =
       ⊎-elim
       (λ rest.
       elim (ℕ-discrete from at) [
-        | yes q ↦ inr (subst (λ (start : ℕ). Outside (set row at true) (next start) node) q rest)
+        | yes q ↦ inr (subst (λ (start : ℕ). Avoids (set row at true) (next start) node) q rest)
         | no q ↦ inl (link h (getD-set-other row at from true false q ∙ e) rest)
       ])
       inr
       (cut row at ends run)
 
   -- a run can go on from its first node and never come back to it
-  onward : (row : List Bool) {from node : ℕ} → from < length row → (node ≡ from → ⊥) → Outside row from node →
-      Outside (set row from true) (next from) node
+  onward : (row : List Bool) {from node : ℕ} → from < length row → (node ≡ from → ⊥) → Avoids row from node →
+      Avoids (set row from true) (next from) node
   onward row {from} {node} h ends run =
       ⊎-elim
       (λ again. let z : _≡_ {A = ℕ} 0 1 = cc (begins again .1, getD-set-same row from true false h) in absurd (omega arith))
@@ -54,18 +54,18 @@ module _ (next : ℕ → ℕ) (count : ℕ) where
       (cut row from ends run)
 
   -- so each link takes a node that the row misses
-  pub outside-leads : (links : ℕ) (row : List Bool) {from node : ℕ} → count ≤ length row → missing count row ≤ links →
-      Outside row from node → leads next count links from node ≡ true
+  pub avoids-leads : (links : ℕ) (row : List Bool) {from node : ℕ} → count ≤ length row → missing count row ≤ links →
+      Avoids row from node → leads next count links from node ≡ true
   unfolding leads
-  outside-leads zero row {from} h k run =
+  avoids-leads zero row {from} h k run =
       let first = begins run in
       absurd (omega (arith, one-less count row from (first .0) h (first .1)))
-  outside-leads (suc links) row {from} {node} h k run =
+  avoids-leads (suc links) row {from} {node} h k run =
       let first = begins run in
       let less = one-less count row from (first .0) h (first .1) in
       elim (ℕ-discrete node from) [
         | yes q ↦ or-inl (eqb from node) _ (eq-eqb from node (cc))
         | no q ↦ or-inr (eqb from node) _
             (and-intro (lt-ltb from count (first .0))
-            (outside-leads links (set row from true) (rw length-set h) (omega arith) (onward row (omega arith) q run)))
+            (avoids-leads links (set row from true) (rw length-set h) (omega arith) (onward row (omega arith) q run)))
       ]

@@ -110,10 +110,20 @@ pub turn-steps : (arena : List ℕ) (worker : ℕ) {step : Step} → turnOn aren
 turn-steps arena worker e =
     done-step (workerAt arena worker) (suc worker) (seenBy arena (workerAt arena worker)) (turn-accepted arena worker e .done)
 
+-- the links and the roots of an arena
+abbrev pub nextIn : List ℕ → ℕ → ℕ
+nextIn arena = nextAt (nodeWidth (layoutOf arena)) (nodePart arena)
+
+abbrev pub rootsIn : List ℕ → List ℕ
+rootsIn arena = rootsOf (workerAt arena) (workersOf arena)
+
 -- document 01: some run of next links leads to the node from node 0, node 1, or a pred, curr or spare
 abbrev pub ReachedIn : List ℕ → ℕ → Type 0
-ReachedIn arena =
-    Reached (nextAt (nodeWidth (layoutOf arena)) (nodePart arena)) (nodesOf arena) (rootsOf (workerAt arena) (workersOf arena))
+ReachedIn arena = Reached (nextIn arena) (nodesOf arena) (rootsIn arena)
+
+-- the lowest-numbered node to which none does
+abbrev pub lowestFreeIn : List ℕ → Free
+lowestFreeIn arena = lowestFree (nextIn arena) (nodesOf arena) (rootsIn arena)
 
 module _ (arena : List ℕ) (w : Worker) (step : Step) where
   -- the turn takes the lowest-numbered free node
@@ -135,32 +145,24 @@ pub takes-free : (arena : List ℕ) (worker : ℕ) {step : Step} → turnOn aren
     workerAt arena worker .stage ≡ 14 → Takes arena (workerAt arena worker) step ⊎ IsFull arena (workerAt arena worker) step
 unfolding seenBy seenOf
 takes-free arena worker {step} e s =
-    go (lowestFree next (nodesOf arena) roots) refl
+    go (lowestFreeIn arena) refl
     (turn-steps arena worker e ∙ step-row w (suc worker) (seenBy arena w) s ∙ ap (takes w) (seen-free (w .stage) s))
   where
     w : Worker
     w = workerAt arena worker
 
-    next : ℕ → ℕ
-    next = nextAt (nodeWidth (layoutOf arena)) (nodePart arena)
-
-    roots : List ℕ
-    roots = rootsOf (workerAt arena) (workersOf arena)
-
-    seen-free : (stage : ℕ) → stage ≡ 14 →
-        cond (eqb stage 14) (lowestFree next (nodesOf arena) roots) free.None ≡ lowestFree next (nodesOf arena) roots
+    seen-free : (stage : ℕ) → stage ≡ 14 → cond (eqb stage 14) (lowestFreeIn arena) free.None ≡ lowestFreeIn arena
     seen-free stage s = rw s
 
-    go : (found : Free) → lowestFree next (nodesOf arena) roots ≡ found → step ≡ takes w found →
-        Takes arena w step ⊎ IsFull arena w step
+    go : (found : Free) → lowestFreeIn arena ≡ found → step ≡ takes w found → Takes arena w step ⊎ IsFull arena w step
     go free.None none same =
         inr (record {
           effect = ap (λ (t : Step). t .effect) same;
           answer = ap (λ (t : Step). t .worker .answer) same;
-          none = lowest-none next (nodesOf arena) roots none;
+          none = lowest-none (nextIn arena) (nodesOf arena) (rootsIn arena) none;
         })
     go (free.Node node) some same =
-        let found = lowest-found next (nodesOf arena) roots some in
+        let found = lowest-found (nextIn arena) (nodesOf arena) (rootsIn arena) some in
         inl (record {
           node = node;
           effect = ap (λ (t : Step). t .effect) same;

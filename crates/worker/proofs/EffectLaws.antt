@@ -2,7 +2,7 @@
 use Prim.Native.Nat.{ℕ, zero, suc, _+_, _<_}
 use mathlib.Core.Path.{_≡_, subst, sym, _∙_}
 use mathlib.Core.List.{List, [], _∷_}
-use mathlib.Core.Bool.{Bool, true, false, cond, not, _&&_, _||_}
+use mathlib.Core.Bool.{Bool, true, false, cond, _&&_}
 use mathlib.Mathlib.Data.Bool.Basic.{and-elim-left}
 use native.Mathlib.Decide.{ℕ-discrete}
 use native.Mathlib.Nat.{zero-add, add-zero, add-suc, suc-add}
@@ -10,8 +10,8 @@ use lib.ListN.{getD}
 use lib.Dec.{ltb, eqb}
 use borrow.Author.Tests.{ltb-true, not-false, ne-eqb}
 use Rattle.worker.specs.Worker.{add}
-use Rattle.worker.specs.Stages.{reports, goes, to, locks, denies, takes, stageTable, stepOf}
-use Rattle.worker.specs.Turn.{readsPred, readsCurr, readsSpare, placed, busyRefusals, turnRefusals, turnOf}
+use Rattle.worker.specs.Stages.{withStage, reports, goes, to, denies, takes, stageTable, stepOf}
+use Rattle.worker.specs.Turn.{placed, busyRefusals, turnRefusals, turnOf}
 use Rattle.worker.specs.declared.Worker.{Worker}
 use Rattle.worker.specs.declared.report.Free.{Free}
 use Rattle.worker.specs.declared.report.Free.the-variants as free
@@ -49,21 +49,10 @@ row-of P n k default end other = other (n + k)
 row-of P n zero default (this then rest) other = rw add-zero this
 row-of P n (suc k) default (this then rest) other = rw (add-suc, ← suc-add) (row-of P (suc n) k default rest other)
 
-either-way : (count : ℕ) (t : Bool) (a b : Step) → EffectBelow count (a .effect) → EffectBelow count (b .effect) →
-    EffectBelow count (cond t a b .effect)
-either-way count true a b p q = p
-either-way count false a b p q = q
-
 module _ (w : Worker) (owner : ℕ) (seen : Seen) where
-  -- the test on node numbers, at a stage
-  abbrev placedAt : ℕ → Bool
-  placedAt stage =
-      (not (readsPred stage) || ltb (w .pred) (seen .count))
-      && (not (readsCurr stage) || ltb (w .curr) (seen .count))
-      && (not (readsSpare stage) || ltb (w .spare) (seen .count))
-
+  -- a row's effect is on a node below N, where the numbers that its stage reads are
   abbrev Below : ℕ → Step → Type 0
-  Below stage step = placedAt stage ≡ true → EffectBelow (seen .count) (step .effect)
+  Below stage step = placed (withStage w stage) (seen .count) ≡ true → EffectBelow (seen .count) (step .effect)
 
   takes-below : (found : Free) → FreeBelow (seen .count) found → EffectBelow (seen .count) (takes w found .effect)
   takes-below free.None below = tt
@@ -76,10 +65,8 @@ module _ (w : Worker) (owner : ℕ) (seen : Seen) where
   curr-below : (a : Bool) → ltb (w .curr) (seen .count) && a ≡ true → w .curr < seen .count
   curr-below a e = ltb-true (w .curr) (seen .count) (and-elim-left _ a e)
 
-  locks-below : (node holder stage : ℕ) → node < seen .count → EffectBelow (seen .count) (locks w node holder owner stage .effect)
-  locks-below node holder stage below = either-way (seen .count) (eqb holder 0) (goes w stage (SetOwner node owner)) (reports w Waits) below tt
-
   rows-below : FreeBelow (seen .count) (seen .free) → AllFrom Below 0 (stageTable w owner seen)
+  unfolding placed
   rows-below found =
       (λ e. tt)
       then (λ e. tt)
@@ -87,8 +74,8 @@ module _ (w : Worker) (owner : ℕ) (seen : Seen) where
       then (λ e. tt)
       then (λ e. tt)
       then (λ e. tt)
-      then (λ e. locks-below (w .pred) (seen .pred .owner) 7 (pred-below _ _ e))
-      then (λ e. locks-below (w .curr) (seen .curr .owner) 8 (curr-below _ e))
+      then (λ e. locks-below (eqb (seen .pred .owner) 0) (w .pred) 7 (pred-below _ _ e))
+      then (λ e. locks-below (eqb (seen .curr .owner) 0) (w .curr) 8 (curr-below _ e))
       then (λ e. tt)
       then (λ e. tt)
       then (λ e. tt)
@@ -109,6 +96,11 @@ module _ (w : Worker) (owner : ℕ) (seen : Seen) where
       then (λ e. tt)
       then end
     where
+      locks-below : (unowned : Bool) (node stage : ℕ) → node < seen .count →
+          EffectBelow (seen .count) (cond unowned (goes w stage (SetOwner node owner)) (reports w Waits) .effect)
+      locks-below true node stage below = below
+      locks-below false node stage below = tt
+
       decides-below : (adds found : Bool) →
           EffectBelow (seen .count) (cond adds (cond found (denies w 19) (to w 14)) (cond found (to w 16) (denies w 19)) .effect)
       decides-below true true = tt
@@ -121,7 +113,7 @@ module _ (w : Worker) (owner : ℕ) (seen : Seen) where
       compares-below false true = tt
       compares-below false false = tt
 
-  step-below : (stage : ℕ) → placedAt stage ≡ true → FreeBelow (seen .count) (seen .free) →
+  step-below : (stage : ℕ) → placed (withStage w stage) (seen .count) ≡ true → FreeBelow (seen .count) (seen .free) →
       EffectBelow (seen .count) (getD (stageTable w owner seen) stage (reports w Idle) .effect)
   step-below stage e found =
       let row : Below (0 + stage) (getD (stageTable w owner seen) stage (reports w Idle)) =
@@ -131,7 +123,7 @@ module _ (w : Worker) (owner : ℕ) (seen : Seen) where
   -- the effect of a turn that is done is on a node below N
   pub done-below : {step : Step} → turnOf w owner seen ≡ Done step → FreeBelow (seen .count) (seen .free) →
       EffectBelow (seen .count) (step .effect)
-  unfolding turnOf turnRefusals busyRefusals placed stepOf
+  unfolding turnOf turnRefusals busyRefusals stepOf
   done-below {step} e found =
       let same = done-step w owner seen e in
       let Has : Step → Type 0 = λ t. EffectBelow (seen .count) (t .effect) in
