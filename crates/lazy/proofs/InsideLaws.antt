@@ -24,7 +24,7 @@ use Rattle.lazy.proofs.FreeLaws.{lowest-found}
 use Rattle.lazy.proofs.TurnLaws.{Touches, turn-leaves, turn-accepted, nextIn, rootsIn, lowestFreeIn}
 
 -- the node of a turn's effect is below N
-effect-below : (arena : List ℕ) (worker : ℕ) {step : Step} → turnOn arena worker ≡ turned.Done step → EffectBelow (nodesOf arena) (step .effect)
+pub effect-below : (arena : List ℕ) (worker : ℕ) {step : Step} → turnOn arena worker ≡ turned.Done step → EffectBelow (nodesOf arena) (step .effect)
 unfolding seenBy seenOf
 effect-below arena worker e =
     done-below (workerAt arena worker) (suc worker) (seenBy arena (workerAt arena worker)) (turn-accepted arena worker e .done)
@@ -36,12 +36,12 @@ effect-below arena worker e =
     go false found same = tt
 
 -- the last field has room in every layout there is
-fields-fit : (layout : ℕ) → layout ≡ layoutNumber → nodeOwner < nodeWidth layout
+pub fields-fit : (layout : ℕ) → layout ≡ layoutNumber → nodeOwner < nodeWidth layout
 unfolding nodeWidth
 fields-fit layout same = rw same (omega arith)
 
 -- a field of a node below N stands among the node records
-field-inside : (arena : List ℕ) (node field : ℕ) → Header arena → node < nodesOf arena → field ≤ nodeOwner →
+pub field-inside : (arena : List ℕ) (node field : ℕ) → Header arena → node < nodesOf arena → field ≤ nodeOwner →
     (nodesFromOf arena ≤ nodeFrom arena node field) × (nodeFrom arena node field < totalOf arena)
 unfolding nodeFrom
 field-inside arena node field header below fits =

@@ -1,11 +1,10 @@
 -- A turn that is done writes only to nodes that there are.
-use Prim.Native.Nat.{ℕ, zero, suc, _+_, _<_}
+use Prim.Native.Nat.{ℕ, _<_}
 use mathlib.Core.Path.{_≡_, subst, sym, _∙_}
-use mathlib.Core.List.{List, [], _∷_}
+use mathlib.Core.List.{[]}
 use mathlib.Core.Bool.{Bool, true, false, cond, _&&_}
 use mathlib.Mathlib.Data.Bool.Basic.{and-elim-left}
 use native.Mathlib.Decide.{ℕ-discrete}
-use native.Mathlib.Nat.{zero-add, add-zero, add-suc, suc-add}
 use lib.ListN.{getD}
 use lib.Dec.{ltb, eqb}
 use borrow.Author.Tests.{ltb-true, not-false, ne-eqb}
@@ -21,6 +20,7 @@ use Rattle.worker.specs.declared.report.Step.{Step}
 use Rattle.worker.specs.declared.report.Effect.{Effect}
 use Rattle.worker.specs.declared.report.Effect.the-variants.{Nothing, SetOwner, SetNext, SetMark, Fill}
 use Rattle.worker.specs.declared.report.Turned.the-variants.{Done}
+use Rattle.worker.proofs.Tables.{AllFrom, end, _then_, row-at}
 use Rattle.worker.proofs.RefusalLaws.{NoneHolds}
 use Rattle.worker.proofs.TurnLaws.{judged-done, done-step, step-row}
 
@@ -36,18 +36,6 @@ EffectBelow count (Fill node key next) = node < count
 abbrev pub FreeBelow : ℕ → Free → Type 0
 FreeBelow count free.None = Unit {0}
 FreeBelow count (free.Node node) = node < count
-
--- a claim of every row, each with its number
-infixr 5 _then_
-data AllFrom (P : ℕ → Step → Type 0) : ℕ → List Step → Type 0 where
-  end : {n : ℕ} → AllFrom P n []
-  _then_ : {n : ℕ} {step : Step} {steps : List Step} → P n step → AllFrom P (suc n) steps → AllFrom P n (step ∷ steps)
-
-row-of : (P : ℕ → Step → Type 0) (n k : ℕ) {steps : List Step} (default : Step) → AllFrom P n steps → ((m : ℕ) → P m default) →
-    P (n + k) (getD steps k default)
-row-of P n k default end other = other (n + k)
-row-of P n zero default (this then rest) other = rw add-zero this
-row-of P n (suc k) default (this then rest) other = rw (add-suc, ← suc-add) (row-of P (suc n) k default rest other)
 
 module _ (w : Worker) (owner : ℕ) (seen : Seen) where
   -- a row's effect is on a node below N, where the numbers that its stage reads are
@@ -115,10 +103,7 @@ module _ (w : Worker) (owner : ℕ) (seen : Seen) where
 
   step-below : (stage : ℕ) → placed (withStage w stage) (seen .count) ≡ true → FreeBelow (seen .count) (seen .free) →
       EffectBelow (seen .count) (getD (stageTable w owner seen) stage (reports w Idle) .effect)
-  step-below stage e found =
-      let row : Below (0 + stage) (getD (stageTable w owner seen) stage (reports w Idle)) =
-      row-of Below 0 stage (reports w Idle) (rows-below found) (λ m passed. tt) in
-      row (rw zero-add e)
+  step-below stage e found = row-at Below stage (stageTable w owner seen) (reports w Idle) (rows-below found) (λ m out passed. tt) e
 
   -- the effect of a turn that is done is on a node below N
   pub done-below : {step : Step} → turnOf w owner seen ≡ Done step → FreeBelow (seen .count) (seen .free) →

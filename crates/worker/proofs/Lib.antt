@@ -2,5 +2,6 @@
 pub mod Laws
 pub mod RefusalLaws
 pub mod ReportLaws
+pub mod Tables
 pub mod TurnLaws
 pub mod EffectLaws

@@ -1,0 +1,322 @@
+-- Laws of sets as rising lists of keys, and of the set of an arena.
+use Prim.Native.Nat.{ℕ, zero, suc, _+_, _≤_, _<_}
+use mathlib.Core.Path.{_≡_, refl, sym, ap, _∙_}
+use mathlib.Core.Logic.{_≢_, _↔_, ⊎-elim}
+use mathlib.Core.List.{List, [], _∷_, List·Memᴰ, List·Memᴰ·head, List·Memᴰ·tail, List·Memᴰ·not-nil, List·Memᴰ·cases-cons, Memᴰ·cast}
+use mathlib.Core.Bool.{Bool, true, false, not, _&&_, _||_, and-false, true≢false}
+use mathlib.Core.Option.{Option, none, some, Option·map, Option·getD, Option·none-ne-some}
+use mathlib.Mathlib.Data.Bool.Basic.{dichotomy, or-inl, or-inr, and-elim-right}
+use mathlib.Mathlib.Data.Bool.Basic.{eq-false-eq-not-eq-true, or-eq-false-eq-eq-false-and-eq-false}
+use native.Mathlib.Omega.{arith}
+use native.Mathlib.Decide.{ℕ-discrete}
+use lib.Dec.{ltb, eqb}
+use borrow.Author.Tests.{eqb-true, eqb-false, eq-eqb, ne-eqb, ltb-true, ltb-false, lt-ltb}
+use Rattle.worker.specs.Node.{head, tail}
+use Rattle.arena.specs.Layout.{layoutOf, nodesOf, nodeWidth, nodePart}
+use Rattle.arena.specs.Records.{keyAt, nextAt}
+use Rattle.arena.specs.Snapshot.{walk, chain, isNone}
+use Rattle.linear.specs.Lists.{filter, member}
+use Rattle.linear.specs.Sets.{nodeIn, isUnmarked, chainOf, setOf, OnChain, top, link, InSet}
+use Rattle.linear.specs.Sequential.{including, excluding}
+use Rattle.linear.proofs.ListLaws.{in-filter, from-filter, in-map, from-map}
+use Rattle.linear.proofs.ListLaws.{Each, none, _and_, Pairs, alone, _ahead_, each-in, each-of, pairs-filter, pairs-map}
+
+-- keys rise
+abbrev pub Rising : List ℕ → Type 0
+Rising = Pairs (λ a b. a < b)
+
+-- the keys of a list are what is in it
+in-member : {key : ℕ} {keys : List ℕ} → List·Memᴰ key keys → member key keys ≡ true
+unfolding member
+in-member {key} (List·Memᴰ·head {x = other} same) = or-inl (eqb key other) _ (eq-eqb key other same)
+in-member {key} (List·Memᴰ·tail {x = other} m) = or-inr (eqb key other) _ (in-member m)
+
+from-member : (key : ℕ) (keys : List ℕ) → member key keys ≡ true → List·Memᴰ key keys
+unfolding member
+from-member key [] e = let z : _≡_ {A = ℕ} 0 1 = cc in absurd (omega arith)
+from-member key (other ∷ keys) e =
+    elim (ℕ-discrete key other) [
+      | yes q ↦ List·Memᴰ·head q
+      | no q ↦ List·Memᴰ·tail (from-member key keys (rw (ne-eqb key other q) at e))
+    ]
+
+-- what is in one list is in another with the same keys
+shared : {key : ℕ} {xs : List ℕ} (ys : List ℕ) → member key xs ≡ member key ys → List·Memᴰ key xs → List·Memᴰ key ys
+shared {key} ys same m = from-member key ys (sym same ∙ in-member m)
+
+-- and so is its first
+first-shared : (x : ℕ) (xs ys : List ℕ) → member x (x ∷ xs) ≡ member x ys → List·Memᴰ x ys
+first-shared x xs ys same = shared ys same (List·Memᴰ·head {xs = xs} refl)
+
+-- a key below all others is the least, and is not among the others
+least : {first key : ℕ} {keys : List ℕ} → Each (λ other. first < other) keys → List·Memᴰ key (first ∷ keys) → first ≤ key
+least above m = ⊎-elim (λ same. omega arith) (λ there. omega (arith, each-in above there)) (List·Memᴰ·cases-cons m)
+
+once : (first : ℕ) (keys : List ℕ) → Each (λ other. first < other) keys → member first keys ≡ false
+once first keys above =
+    eq-false-eq-not-eq-true (member first keys) .0 (λ present. omega (arith, each-in above (from-member first keys present)))
+
+-- without their first keys, which are the same, two lists have the same keys as before
+others-same : (key first : ℕ) {xs ys : List ℕ} → Each (λ other. first < other) xs → Each (λ other. first < other) ys →
+    member key (first ∷ xs) ≡ member key (first ∷ ys) → member key xs ≡ member key ys
+unfolding member
+others-same key first {xs} {ys} above beyond same =
+    elim (ℕ-discrete key first) [
+      | yes q ↦ rw q (once first xs above ∙ sym (once first ys beyond))
+      | no q ↦ rw (ne-eqb key first q) at same
+    ]
+
+-- rising lists with the same keys are the same
+pub rising-same : (xs ys : List ℕ) → Rising xs → Rising ys → ((key : ℕ) → member key xs ≡ member key ys) → xs ≡ ys
+rising-same [] [] r s same = refl
+rising-same [] (y ∷ ys) r s same = absurd (List·Memᴰ·not-nil (first-shared y ys [] (sym (same y))))
+rising-same (x ∷ xs) [] r s same = absurd (List·Memᴰ·not-nil (first-shared x xs [] (same x)))
+rising-same (x ∷ xs) (y ∷ ys) (above ahead r) (beyond ahead s) same =
+    let low = least above (first-shared y ys (x ∷ xs) (sym (same y))) in
+    let high = least beyond (first-shared x xs (y ∷ ys) (same x)) in
+    let first : y ≡ x = omega arith in
+    cc (first, rising-same xs ys r s (λ key. others-same key x above (rw first at beyond) (rw first at (same key))))
+
+-- the order of two tests does not matter
+exchanged : (a b c : Bool) → (a || (b || c)) ≡ (b || (a || c))
+exchanged true true c = refl
+exchanged true false c = refl
+exchanged false b c = refl
+
+-- a key put in its place is there with the others
+pub including-member : (key : ℕ) (keys : List ℕ) (other : ℕ) → member other (including key keys) ≡ (eqb other key || member other keys)
+unfolding member including
+including-member key [] other = refl
+including-member key (first ∷ keys) other =
+    ⊎-elim
+    (λ later.
+    rw later
+    (ap (λ there. eqb other first || there) (including-member key keys other)
+    ∙ exchanged (eqb other first) (eqb other key) (member other keys)))
+    (λ before. rw before)
+    (dichotomy (ltb key first))
+
+-- one that is the same is not left where the first is taken out, and where it is kept, the first is not the same
+taken : (same rest : Bool) → (not same && rest) ≡ (not same && (same || rest))
+taken true rest = refl
+taken false rest = refl
+
+kept : (first same rest : Bool) → (first ≡ true → same ≡ false) → (first || (not same && rest)) ≡ (not same && (first || rest))
+kept true same rest apart = rw (apart refl)
+kept false same rest apart = refl
+
+-- a key taken out is not there, and every other one is that was
+pub excluding-member : (key : ℕ) (keys : List ℕ) (other : ℕ) →
+    member other (excluding key keys) ≡ (not (eqb other key) && member other keys)
+unfolding member excluding
+excluding-member key [] other = sym (and-false (not (eqb other key)))
+excluding-member key (first ∷ keys) other =
+    elim (ℕ-discrete key first) [
+      | yes q ↦ rw (← q, eq-eqb key key refl) (excluding-member key keys other ∙ taken (eqb other key) (member other keys))
+      | no q ↦
+          let apart : eqb other first ≡ true → eqb other key ≡ false = λ e. ne-eqb other key (λ p. q (sym p ∙ eqb-true other first e)) in
+          rw (ne-eqb key first q)
+          (ap (λ there. eqb other first || there) (excluding-member key keys other)
+          ∙ kept (eqb other first) (eqb other key) (member other keys) apart)
+    ]
+
+-- keys still rise with a new one put in its place
+pub including-rises : (key : ℕ) (keys : List ℕ) → Rising keys → member key keys ≡ false → Rising (including key keys)
+unfolding member including
+including-rises key [] r absent = none ahead alone
+including-rises key (first ∷ keys) (above ahead r) absent =
+    let apart = or-eq-false-eq-eq-false-and-eq-false (eqb key first) (member key keys) .0 absent in
+    ⊎-elim
+    (λ later.
+    let below : first < key = omega (arith, ltb-false, eqb-false key first (apart .0)) in
+    rw later
+    (each-of (including key keys)
+    (λ other m.
+    ⊎-elim (λ same. omega arith) (λ there. each-in above there)
+    (List·Memᴰ·cases-cons (shared (key ∷ keys) (including-member key keys other) m)))
+    ahead including-rises key keys r (apart .1)))
+    (λ before.
+    let below = ltb-true key first before in
+    rw before ((below and each-of keys (λ other m. omega (arith, each-in above m))) ahead above ahead r))
+    (dichotomy (ltb key first))
+
+-- a key taken out leaves those that pass a test, so they still rise
+excluding-filter : (key : ℕ) (keys : List ℕ) → excluding key keys ≡ filter (λ other. not (eqb key other)) keys
+unfolding excluding filter
+excluding-filter key [] = refl
+excluding-filter key (first ∷ keys) =
+    ⊎-elim (λ apart. rw apart (ap (λ later. first ∷ later) (excluding-filter key keys)))
+    (λ same. rw same (excluding-filter key keys)) (dichotomy (eqb key first))
+
+pub excluding-rises : (key : ℕ) (keys : List ℕ) → Rising keys → Rising (excluding key keys)
+excluding-rises key keys r = rw excluding-filter (pairs-filter (λ other. not (eqb key other)) r)
+
+-- nodes that links lead through from one node up to Tail, each with a key above the last
+data Walked (key next : ℕ → ℕ) : ℕ → ℕ → List ℕ → Type 0 where
+  ended : {last node : ℕ} → node ≡ tail → Walked key next last node []
+  passed : {last node : ℕ} {nodes : List ℕ} → node ≢ tail → last < key node →
+      Walked key next (key node) (next node) nodes → Walked key next last node (node ∷ nodes)
+
+module _ {key next : ℕ → ℕ} where
+  -- each has a key above the last, and not only above the one before it
+  walked-above : {last node n : ℕ} {nodes : List ℕ} → Walked key next last node nodes → List·Memᴰ n nodes → last < key n
+  walked-above (ended e) m = absurd (List·Memᴰ·not-nil m)
+  walked-above (passed h above onward) m =
+      ⊎-elim (λ same. rw same above) (λ there. omega (arith, walked-above onward there)) (List·Memᴰ·cases-cons m)
+
+  walked-rises : {last node : ℕ} {nodes : List ℕ} → Walked key next last node nodes → Pairs (λ a b. key a < key b) nodes
+  walked-rises (ended e) = alone
+  walked-rises (passed {nodes} h above onward) = each-of nodes (λ n m. walked-above onward m) ahead walked-rises onward
+
+  -- each is on the chain, and is not Tail
+  walked-on : {last node n : ℕ} {nodes : List ℕ} → OnChain next node → Walked key next last node nodes → List·Memᴰ n nodes →
+      OnChain next n × (n ≢ tail)
+  walked-on on (ended e) m = absurd (List·Memᴰ·not-nil m)
+  walked-on on (passed h above onward) m =
+      ⊎-elim (λ same. rw same (on, h)) (λ there. walked-on (link on h) onward there) (List·Memᴰ·cases-cons m)
+
+  -- the first is one of them, and so is what follows one of them, if it is not Tail
+  walked-first : {last node : ℕ} {nodes : List ℕ} → Walked key next last node nodes → node ≢ tail → List·Memᴰ node nodes
+  walked-first (ended e) h = absurd (h e)
+  walked-first (passed k above onward) h = List·Memᴰ·head refl
+
+  walked-next : {last node n : ℕ} {nodes : List ℕ} → Walked key next last node nodes → List·Memᴰ n nodes → next n ≢ tail →
+      List·Memᴰ (next n) nodes
+  walked-next (ended e) m h = absurd (List·Memᴰ·not-nil m)
+  walked-next (passed k above onward) m h =
+      List·Memᴰ·tail
+      (⊎-elim (λ same. rw same (walked-first onward (rw same at h))) (λ there. walked-next onward there h) (List·Memᴰ·cases-cons m))
+
+  -- so the nodes from Head's next on are all those of the chain but Head and Tail
+  on-walked : {last n : ℕ} {nodes : List ℕ} → Walked key next last (next head) nodes → OnChain next n → n ≢ head → n ≢ tail →
+      List·Memᴰ n nodes
+  on-walked walked top h t = absurd (h refl)
+  on-walked walked (link {node} on k) h t =
+      elim (ℕ-discrete node head) [
+        | yes q ↦ rw q (walked-first walked (rw q at t))
+        | no q ↦ walked-next walked (on-walked walked on q k) t
+      ]
+
+-- a list with one more in front is there where the list is
+mapped-some : (node : ℕ) {nodes : List ℕ} (onward : Option (List ℕ)) → Option·map (λ rest. node ∷ rest) onward ≡ some nodes →
+    (rest : List ℕ) × (onward ≡ some rest) × (nodes ≡ node ∷ rest)
+mapped-some node {nodes} none e = absurd (Option·none-ne-some nodes e)
+mapped-some node {nodes} (some rest) e = (rest, refl, cc)
+
+-- and none is there only where none was
+mapped-none : (node : ℕ) (onward : Option (List ℕ)) → isNone onward ≡ false → isNone (Option·map (λ rest. node ∷ rest) onward) ≡ false
+mapped-none node none e = e
+mapped-none node (some rest) e = refl
+
+-- what holds of a list that is there, and of no nodes where none is, holds of what is taken for it
+or-empty : {Holds : List ℕ → Type 0} (found : Option (List ℕ)) → (isNone found ≡ true → Holds []) →
+    ((nodes : List ℕ) → found ≡ some nodes → Holds nodes) → Holds (Option·getD found [])
+or-empty none empty holds = empty refl
+or-empty (some nodes) empty holds = holds nodes refl
+
+module _ (width : ℕ) (words : List ℕ) (count : ℕ) where
+  -- a walk that comes to an end passes such nodes
+  walk-walked : (steps last node : ℕ) (nodes : List ℕ) → walk width words count steps last node ≡ some nodes →
+      Walked (keyAt width words) (nextAt width words) last node nodes
+  unfolding walk
+  walk-walked zero last node nodes e = absurd (Option·none-ne-some nodes e)
+  walk-walked (suc steps) last node nodes e =
+      elim (ℕ-discrete node tail) [
+        | yes q ↦ let z : nodes ≡ [] = cc (rw (eq-eqb node tail q) at e) in rw z (ended q)
+        | no q ↦
+            let found = rw (ne-eqb node tail q) at e in
+            ⊎-elim (λ breaks. absurd (Option·none-ne-some nodes (rw breaks at found)))
+            (λ goes.
+            let onward = mapped-some node _ (rw goes at found) in
+            rw (onward .2)
+            (passed q (ltb-true _ _ (and-elim-right (ltb node count) _ goes))
+            (walk-walked steps (keyAt width words node) (nextAt width words node) (onward .0) (onward .1))))
+            (dichotomy (ltb node count && ltb last (keyAt width words node)))
+      ]
+
+  -- where the keys of the chain rise to Tail, steps up to the highest key are enough
+  module _ (rises : (n : ℕ) → OnChain (nextAt width words) n → n ≢ tail →
+      (nextAt width words n < count) × (keyAt width words n < keyAt width words (nextAt width words n)))
+      (small : (n : ℕ) → keyAt width words n ≤ 65535) where
+    walk-whole : (steps : ℕ) {node : ℕ} → OnChain (nextAt width words) node → node ≢ tail → 65535 < keyAt width words node + steps →
+        isNone (walk width words count steps (keyAt width words node) (nextAt width words node)) ≡ false
+    unfolding walk
+    walk-whole zero {node} on h enough = absurd (omega (arith, small node))
+    walk-whole (suc steps) {node} on h enough =
+        let following = nextAt width words node in
+        let step = rises node on h in
+        elim (ℕ-discrete following tail) [
+          | yes q ↦ rw (eq-eqb following tail q)
+          | no q ↦
+              rw (ne-eqb following tail q, lt-ltb _ _ (step .0), lt-ltb _ _ (step .1))
+              (mapped-none following (walk width words count steps (keyAt width words following) (nextAt width words following))
+              (walk-whole steps (link on h) q (omega arith)))
+        ]
+
+-- a node's key and next, and the walk from Head, of an arena
+abbrev keyOf : List ℕ → ℕ → ℕ
+keyOf arena node = nodeIn arena node .key
+
+abbrev nextOf : List ℕ → ℕ → ℕ
+nextOf arena node = nodeIn arena node .next
+
+abbrev pub walkOf : List ℕ → Option (List ℕ)
+walkOf arena = chain (nodeWidth (layoutOf arena)) (nodePart arena) (nodesOf arena)
+
+-- the chain is not broken
+abbrev pub ChainWhole : List ℕ → Type 0
+ChainWhole arena = isNone (walkOf arena) ≡ false
+
+module _ (arena : List ℕ) where
+  -- a chain whose keys rise to Tail is whole: each node has a key above the last, and keys are words, so 65,536 steps are enough
+  pub chain-whole : nodesOf arena ≤ 65535 →
+      ((n : ℕ) → OnChain (λ m. nodeIn arena m .next) n → n ≢ tail →
+      (nodeIn arena n .next < nodesOf arena) × (nodeIn arena n .key < nodeIn arena (nodeIn arena n .next) .key)) →
+      ((n : ℕ) → nodeIn arena n .key ≤ 65535) → ChainWhole arena
+  unfolding chain
+  chain-whole few rises small =
+      walk-whole (nodeWidth (layoutOf arena)) (nodePart arena) (nodesOf arena) rises small 65536 top (λ q. omega arith) (omega arith)
+
+  -- the nodes that the walk finds
+  found-walked : (nodes : List ℕ) → walkOf arena ≡ some nodes →
+      Walked (keyOf arena) (nextOf arena) (keyOf arena head) (nextOf arena head) nodes
+  unfolding chain
+  found-walked =
+      walk-walked (nodeWidth (layoutOf arena)) (nodePart arena) (nodesOf arena) 65536 (keyOf arena head) (nextOf arena head)
+
+  whole-walked : ChainWhole arena → Walked (keyOf arena) (nextOf arena) (keyOf arena head) (nextOf arena head) (chainOf arena)
+  unfolding chainOf
+  whole-walked whole = or-empty (walkOf arena) (λ broken. absurd (true≢false (sym broken ∙ whole))) found-walked
+
+  -- the keys of the set rise: the walk passes a node only where its key is above the last, and a broken chain has no nodes
+  pub set-rises : Rising (setOf arena)
+  unfolding setOf chainOf
+  set-rises =
+      pairs-map (keyOf arena)
+      (pairs-filter (isUnmarked arena) (or-empty (walkOf arena) (λ broken. alone) (λ nodes e. walked-rises (found-walked nodes e))))
+
+  -- and where the chain is whole, they are those of document 01's words
+  pub set-members : ChainWhole arena → (key : ℕ) → (member key (setOf arena) ≡ true) ↔ InSet arena key
+  unfolding setOf
+  set-members whole key = (forth, back)
+    where
+      forth : member key (setOf arena) ≡ true → InSet arena key
+      forth e =
+          let found = from-map (keyOf arena) (from-member key (setOf arena) e) in
+          let passed = from-filter (isUnmarked arena) (found .1) in
+          let on = walked-on (link top (λ q. omega arith)) (whole-walked whole) (passed .0) in
+          let above = walked-above (whole-walked whole) (passed .0) in
+          record {
+            node = found .0;
+            on-chain = on .0;
+            not-head = λ q. omega (arith, rw q at above);
+            not-tail = on .1;
+            unmarked = eqb-true _ _ (passed .1);
+            has-key = sym (found .2);
+          }
+
+      back : InSet arena key → member key (setOf arena) ≡ true
+      back s =
+          let on = on-walked (whole-walked whole) (s .on-chain) (s .not-head) (s .not-tail) in
+          let passed = in-filter (isUnmarked arena) on (eq-eqb _ _ (s .unmarked)) in
+          in-member (Memᴰ·cast (sym (s .has-key)) (in-map (keyOf arena) passed))

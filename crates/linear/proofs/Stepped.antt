@@ -1,0 +1,181 @@
+-- The arena after a worker's step: its header stays in order, and decoded it is the state after the step.
+use Prim.Native.Nat.{ℕ, _+_, _≤_, _<_}
+use mathlib.Core.Path.{_≡_, sym, ap, _∙_, fun-ext}
+use mathlib.Core.Logic.{inl, inr}
+use mathlib.Core.List.{List, []}
+use native.Mathlib.Omega.{arith}
+use native.Mathlib.Decide.{ℕ-discrete, decLt}
+use lib.ListN.{length}
+use lib.Seq.{length-sets}
+use borrow.Author.Tests.{eq-eqb, ne-eqb, lt-ltb, le-ltb}
+use Rattle.worker.specs.Worker.{idleWorker}
+use Rattle.worker.specs.declared.Worker.{Worker}
+use Rattle.worker.specs.declared.report.Step.{Step}
+use Rattle.worker.specs.declared.report.Turned.the-variants.{Done}
+use Rattle.worker.proofs.RefusalLaws.{NoneHolds, none-accepts}
+use Rattle.worker.proofs.EffectLaws.{EffectBelow}
+use Rattle.arena.specs.Layout.{word, headerWidth, workerWidth, workerStage, workerOperation, workerKey, workerPred, workerCurr, workerSpare, workerAnswer, workerReserved, nodeKey, nodeNext, nodeMark, nodeOwner, workerFrom, nodeWidth, slot, headerWords, workersOf, nodesOf, nodesFromOf, nodeFrom}
+use Rattle.arena.specs.Records.{workerAt, workerWords, withWorker, nodeAt}
+use Rattle.arena.specs.Replies.{refused, accepted}
+use Rattle.arena.specs.Header.{isHeader, headerRefusals}
+use Rattle.arena.proofs.HeaderLaws.{Header, header-holds}
+use Rattle.arena.proofs.RecordLaws.{Outside, read-back, others-stay}
+use Rattle.lazy.specs.Turn.{withEffect, turnedArena}
+use Rattle.lazy.proofs.InsideLaws.{field-inside}
+use Rattle.linear.proofs.State.{decode, wordAfter, stepped}
+use Rattle.linear.proofs.Words.{fieldIn, effect-long, effect-before, field-word, no-field, effect-word, word-stays}
+
+-- an arena that the header test does not refuse has its header in order
+pub header-of : (arena : List ℕ) → NoneHolds (headerRefusals arena) → Header arena
+header-of arena none = header-holds arena (sym (none-accepts (headerRefusals arena) refused (accepted []) none))
+
+-- the test looks at the length and at the words of the header alone
+refusals-same : (a b : List ℕ) → length a ≡ length b → ((at : ℕ) → at < headerWidth → word a at ≡ word b at) →
+    headerRefusals a ≡ headerRefusals b
+unfolding headerRefusals isHeader headerWords
+refusals-same a b long same =
+    rw (
+      long,
+      same 0 (omega arith),
+      same 1 (omega arith),
+      same 2 (omega arith),
+      same 3 (omega arith),
+      same 4 (omega arith),
+      same 5 (omega arith),
+      same 6 (omega arith),
+      same 7 (omega arith),
+    )
+
+-- a worker's record of given words
+abbrev pub recordOf : (ℕ → ℕ) → Worker
+recordOf field =
+    record {
+      stage = field workerStage;
+      operation = field workerOperation;
+      key = field workerKey;
+      pred = field workerPred;
+      curr = field workerCurr;
+      spare = field workerSpare;
+      answer = field workerAnswer;
+      reserved = field workerReserved;
+    }
+
+-- that record is read where these words stand
+pub record-words : (arena : List ℕ) (worker : ℕ) (field : ℕ → ℕ) →
+    ((k : ℕ) → k < workerWidth → word arena (workerFrom worker + k) ≡ field k) → workerAt arena worker ≡ recordOf field
+unfolding workerAt
+record-words arena worker field same =
+    λ i. record {
+      stage = same workerStage (omega arith) i;
+      operation = same workerOperation (omega arith) i;
+      key = same workerKey (omega arith) i;
+      pred = same workerPred (omega arith) i;
+      curr = same workerCurr (omega arith) i;
+      spare = same workerSpare (omega arith) i;
+      answer = same workerAnswer (omega arith) i;
+      reserved = same workerReserved (omega arith) i;
+    }
+
+-- decoded, a worker that there is has its record
+pub known-record : (arena : List ℕ) (v : ℕ) → v < workersOf arena → decode arena .worker v ≡ workerAt arena v
+known-record arena v there = rw (lt-ltb v (workersOf arena) there)
+
+-- and one that there is not is idle
+pub no-record : (arena : List ℕ) (v : ℕ) → workersOf arena ≤ v → decode arena .worker v ≡ idleWorker
+no-record arena v gone = rw (le-ltb v (workersOf arena) gone)
+
+-- the arena after a worker's step
+abbrev pub steppedArena : List ℕ → ℕ → Step → List ℕ
+steppedArena arena worker step = turnedArena arena worker (Done step)
+
+module _ (arena : List ℕ) (none : NoneHolds (headerRefusals arena)) (worker : ℕ) (step : Step) where
+  -- the arena after the step
+  abbrev later : List ℕ
+  later = steppedArena arena worker step
+
+  -- the header before it
+  order : Header arena
+  order = header-of arena none
+
+  -- before the node records a step writes to the worker's own record alone
+  before-stays : (at : ℕ) → at < nodesFromOf arena → Outside worker at → word later at ≡ word arena at
+  before-stays at before outside =
+      others-stay (withEffect arena (step .effect)) worker (step .worker) at outside ∙ effect-before arena (step .effect) at before
+
+  -- and the arena stays as long
+  long-stays : length later ≡ length arena
+  unfolding withWorker
+  long-stays =
+      length-sets (withEffect arena (step .effect)) (workerFrom worker) (workerWords (step .worker)) ∙ effect-long arena (step .effect)
+
+  -- the header stays
+  pub header-stays : (at : ℕ) → at < headerWidth → word (steppedArena arena worker step) at ≡ word arena at
+  header-stays at inside = before-stays at (omega (arith, order .from)) (inl (omega arith))
+
+  -- so it is still in order
+  pub none-stays : NoneHolds (headerRefusals (steppedArena arena worker step))
+  none-stays = rw (refusals-same later arena long-stays header-stays) none
+
+  module _ (known : worker < workersOf arena) where
+    -- the other workers' records stay
+    record-stays : (v : ℕ) → v < workersOf arena → (v ≡ worker → ⊥) → workerAt later v ≡ workerAt arena v
+    unfolding workerAt
+    record-stays v there other =
+        record-words later v (λ k. word arena (workerFrom v + k))
+        (λ k inside. before-stays (workerFrom v + k) (omega (arith, order .from))
+        (elim (decLt v worker) [ yes lower ↦ inl (omega arith) | no higher ↦ inr (omega arith) ]))
+
+    -- and the worker's own is the step's
+    record-steps : workerAt later worker ≡ step .worker
+    record-steps =
+        read-back (withEffect arena (step .effect)) worker (step .worker)
+        (rw (effect-long arena (step .effect)) (omega (arith, order .whole, order .from, order .end)))
+
+    -- decoded, the workers are as the step says
+    worker-steps : (v : ℕ) → decode later .worker v ≡ stepped (decode arena) worker step .worker v
+    worker-steps v =
+        let workers : workersOf later ≡ workersOf arena = header-stays 1 (omega arith) in
+        elim (ℕ-discrete v worker) [
+          | yes same ↦ rw (eq-eqb v worker same, same) (known-record later worker (omega arith) ∙ record-steps)
+          | no other ↦ rw (ne-eqb v worker other)
+              (elim (decLt v (workersOf arena)) [
+                | yes there ↦ known-record later v (omega arith) ∙ record-stays v there other ∙ sym (known-record arena v there)
+                | no gone ↦ no-record later v (omega arith) ∙ sym (no-record arena v (omega arith))
+              ])
+        ]
+
+    module _ (below : EffectBelow (nodesOf arena) (step .effect)) where
+      -- a field of a node is as the effect says
+      field-steps : (n f : ℕ) → f ≤ nodeOwner → fieldIn later n f ≡ wordAfter (step .effect) n f (fieldIn arena n f)
+      unfolding nodeFrom
+      field-steps n f room =
+          let order-later = header-of later none-stays in
+          let nodes : nodesOf later ≡ nodesOf arena = header-stays 2 (omega arith) in
+          elim (decLt n (nodesOf arena)) [
+            | yes there ↦
+                let place : nodeFrom later n f ≡ nodeFrom arena n f
+                = λ i. header-stays 4 (omega arith) i + slot (nodeWidth (header-stays 0 (omega arith) i)) n f in
+                let inside = field-inside arena n f order there room in
+                field-word later order-later n f (omega arith) room
+                ∙ ap (word later) place
+                ∙ others-stay (withEffect arena (step .effect)) worker (step .worker) (nodeFrom arena n f)
+                (inr (omega (arith, order .from)))
+                ∙ effect-word arena order (step .effect) n f below room
+                ∙ ap (wordAfter (step .effect) n f) (sym (field-word arena order n f there room))
+            | no gone ↦
+                no-field later order-later n f (omega arith)
+                ∙ sym (word-stays (nodesOf arena) (step .effect) n f 0 below (omega arith))
+                ∙ ap (wordAfter (step .effect) n f) (sym (no-field arena order n f (omega arith)))
+          ]
+
+      -- the arena after the step, decoded, is the state after the step
+      pub state-steps : decode (steppedArena arena worker step) ≡ stepped (decode arena) worker step
+      unfolding nodeAt
+      state-steps =
+          λ i. record {
+            key = fun-ext (λ n. field-steps n nodeKey (omega arith)) i;
+            next = fun-ext (λ n. field-steps n nodeNext (omega arith)) i;
+            mark = fun-ext (λ n. field-steps n nodeMark (omega arith)) i;
+            owner = fun-ext (λ n. field-steps n nodeOwner (omega arith)) i;
+            worker = fun-ext worker-steps i;
+          }

@@ -1,0 +1,8 @@
+-- Demand 3: every list of starts and turns from a fresh arena is linearizable.
+pub mod Lists
+pub mod Sets
+pub mod Entries
+pub mod History
+pub mod Order
+pub mod Sequential
+pub mod Linearizable

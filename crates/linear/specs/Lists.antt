@@ -1,0 +1,23 @@
+-- Lists: those that pass a test, keys that are in a list, and the first time at which a test holds.
+use Prim.Native.Nat.{ℕ, zero, suc}
+use mathlib.Core.List.{List, [], _∷_}
+use mathlib.Core.Bool.{Bool, false, cond, _||_}
+use lib.Dec.{eqb}
+
+unfoldable pub filter : {A : Type 0} → (A → Bool) → List A → List A
+filter test [] = []
+filter test (x ∷ xs) = let others = filter test xs in cond (test x) (x ∷ others) others
+
+unfoldable pub member : ℕ → List ℕ → Bool
+member key [] = false
+member key (other ∷ keys) = eqb key other || member key keys
+
+-- so many times, from `time` on
+unfoldable pub timesFrom : ℕ → ℕ → List ℕ
+timesFrom time zero = []
+timesFrom time (suc left) = time ∷ timesFrom (suc time) left
+
+-- the first of so many times from `time` on at which a test holds; 0 where it holds at none
+unfoldable pub first : (ℕ → Bool) → ℕ → ℕ → ℕ
+first test time zero = 0
+first test time (suc left) = let onward = first test (suc time) left in cond (test time) time onward
