@@ -16,8 +16,8 @@ use Rattle.linear.proofs.Invariant.{Stands, dead, chained, new, Nodes, 
 use Rattle.linear.proofs.Effects.{Known, old, top, far, link, Act, quiet, owns, fills, links, marks, unlinks, Fills, at-node, off-node, written, inside-after, key-after, leads-after, rises-after, run-after, dead-after, touched-after, owner-after}
 
 -- what the worker holds after its step it held, or read, or has filled; and a node that it has filled is its new one at 15
-pub record Moved (nodes : ℕ) (s : State) (w : ℕ) (step : Step) : Type 0 where
-  pub places : (m : ℕ) → Holds (step .worker) m → Known nodes s w m ⊎ Fills (step .effect) m
+pub record Places (nodes : ℕ) (s : State) (w : ℕ) (step : Step) : Type 0 where
+  pub known : (m : ℕ) → Holds (step .worker) m → Known nodes s w m ⊎ Fills (step .effect) m
   pub fresh : (m : ℕ) → Fills (step .effect) m → (step .worker .stage ≡ 15) × (m ≡ step .worker .spare)
 
 -- what the others see of a step of worker w
@@ -30,7 +30,7 @@ pub record View (nodes : ℕ) (s t : State) (w : ℕ) : Type 0 where
   pub leads : (m : ℕ) → Live nodes t m → Known nodes s w (t .next m)
   pub places : (m : ℕ) → Holds (t .worker w) m → Known nodes s w m ⊎ (Live nodes s m → ⊥)
 
-module _ {nodes : ℕ} {s : State} (inv : Inv nodes s) (w : ℕ) {step : Step} (act : Act nodes s w (step .effect)) (moved : Moved nodes s w step) where
+module _ {nodes : ℕ} {s : State} (inv : Inv nodes s) (w : ℕ) {step : Step} (act : Act nodes s w (step .effect)) (placed : Places nodes s w step) where
   abbrev t : State
   t = stepped s w step
 
@@ -76,7 +76,7 @@ module _ {nodes : ℕ} {s : State} (inv : Inv nodes s) (w : ℕ) {step : Step} (
       from {m} (held v h i) = go (same? v w)
         where
           go : (v ≡ w) ⊎ (v ≢ w) → Live nodes s m ⊎ Fills (step .effect) m
-          go (inl e) = mine i (moved .places m (rw (e, own-after) at h))
+          go (inl e) = mine i (placed .known m (rw (e, own-after) at h))
           go (inr d) = inl (live-held v (rw (others-after v d) at h) i)
 
   pub view-after : View nodes s t w
@@ -87,7 +87,7 @@ module _ {nodes : ℕ} {s : State} (inv : Inv nodes s) (w : ℕ) {step : Step} (
         touched = λ n l. touched-after inv w act l;
         taken = λ n l. owner-after inv w act l;
         leads = λ m l. leads m (live-after l);
-        places = λ m h. places m (moved .places m (rw own-after at h));
+        places = λ m h. places m (placed .known m (rw own-after at h));
       }
     where
       leads : (m : ℕ) → Live nodes s m ⊎ Fills (step .effect) m → Known nodes s w (t .next m)
@@ -166,5 +166,5 @@ module _ {nodes : ℕ} {s : State} (inv : Inv nodes s) (w : ℕ) {step : Step} (
       by : Live nodes s n ⊎ Fills (step .effect) n → Stands t n
       by (inl l) = go l (inv .stands n l)
       by (inr f) =
-          let fresh = moved .fresh n f in
+          let fresh = placed .fresh n f in
           new w (ap (λ (r : Worker). r .stage) own-after ∙ fresh .0) (fresh .1 ∙ ap (λ (r : Worker). r .spare) (sym own-after))

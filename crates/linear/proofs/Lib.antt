@@ -14,3 +14,6 @@ pub mod Invariant
 pub mod Effects
 pub mod After
 pub mod Stable
+pub mod Changes
+pub mod Rows
+pub mod Preserved
