@@ -17,3 +17,8 @@ pub mod Stable
 pub mod Changes
 pub mod Rows
 pub mod Preserved
+pub mod Passes
+pub mod FreeNodes
+pub mod FreshInvariant
+pub mod Members
+pub mod Timeline

@@ -1,0 +1,66 @@
+-- The keys of an arena's set are those of the set of the state that it decodes to.
+use Prim.Native.Nat.{ℕ, _<_}
+use mathlib.Core.Path.{_≡_, refl}
+use mathlib.Core.Logic.{_≢_, _↔_, Iff·trans}
+use mathlib.Core.List.{List}
+use mathlib.Core.Bool.{true}
+use native.Mathlib.Omega.{arith}
+use native.Mathlib.Decide.{ℕ-discrete}
+use Rattle.arena.specs.Layout.{nodesOf}
+use Rattle.linear.specs.Lists.{member}
+use Rattle.linear.specs.Sets.{setOf, OnChain, top, link, InSet}
+use Rattle.linear.proofs.SetLaws.{ChainWhole, chain-whole, set-members}
+use Rattle.linear.proofs.Reach.{Reach, here, one-more, along}
+use Rattle.linear.proofs.State.{decode}
+use Rattle.linear.proofs.Bridge.{Sound}
+use Rattle.linear.proofs.Invariant.{In, Inv, live-chain, live-in}
+
+-- a run of links leads from Head to every node of the chain
+chain-run : {next : ℕ → ℕ} {n : ℕ} → OnChain next n → Reach next 0 n
+chain-run top = here refl
+chain-run (link on more) = one-more (chain-run on)
+
+-- and to no other, where Tail leads to itself
+run-chain : {next : ℕ → ℕ} {n : ℕ} → next 1 ≡ 1 → Reach next 0 n → OnChain next n
+run-chain {next} loops r = along (OnChain next) onward top r
+  where
+    onward : (n : ℕ) → OnChain next n → OnChain next (next n)
+    onward n on = elim (ℕ-discrete n 1) [ yes e ↦ rw (e, loops) (rw e at on) | no more ↦ link on more ]
+
+module _ {workers nodes : ℕ} {arena : List ℕ} (sound : Sound workers nodes arena) (inv : Inv nodes (decode arena)) where
+  -- the chain is whole, since its keys rise to Tail
+  whole : ChainWhole arena
+  whole = chain-whole arena (omega (arith, sound .nodes-are, inv .shape .cap)) rises (inv .shape .small)
+    where
+      rises : (n : ℕ) → OnChain (decode arena .next) n → n ≢ 1 →
+          (decode arena .next n < nodesOf arena) × (decode arena .key n < decode arena .key (decode arena .next n))
+      rises n on more =
+          let live = live-chain (chain-run on) in
+          (rw (sound .nodes-are) (inv .shape .inside n (live-in (inv .shape) live)), inv .shape .rises n live more)
+
+  -- the two ways to say that a key is in the set
+  forth : {key : ℕ} → InSet arena key → In (decode arena) key
+  forth i =
+      record {
+        node = i .node;
+        chain = chain-run (i .on-chain);
+        not-head = i .not-head;
+        not-tail = i .not-tail;
+        unmarked = i .unmarked;
+        has-key = i .has-key;
+      }
+
+  back : {key : ℕ} → In (decode arena) key → InSet arena key
+  back i =
+      record {
+        node = i .node;
+        on-chain = run-chain (inv .shape .tail-next) (i .chain);
+        not-head = i .not-head;
+        not-tail = i .not-tail;
+        unmarked = i .unmarked;
+        has-key = i .has-key;
+      }
+
+  -- so the set has the same keys either way
+  pub set-in : (key : ℕ) → (member key (setOf arena) ≡ true) ↔ In (decode arena) key
+  set-in key = Iff·trans (set-members arena whole key) (forth, back)
