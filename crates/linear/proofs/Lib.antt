@@ -22,3 +22,6 @@ pub mod FreeNodes
 pub mod FreshInvariant
 pub mod Members
 pub mod Timeline
+pub mod Keys
+pub mod Phases
+pub mod Points

@@ -12,7 +12,6 @@ use Rattle.worker.specs.Worker.{within, isKey, lastStage}
 use Rattle.worker.specs.Stages.{withStage}
 use Rattle.worker.specs.Turn.{belongs, kept, placed, astray, busyRefusals, turnRefusals}
 use Rattle.worker.specs.declared.Worker.{Worker}
-use Rattle.worker.specs.declared.report.Seen.{Seen}
 use Rattle.worker.proofs.Laws.{in-range}
 use Rattle.worker.proofs.RefusalLaws.{NoneHolds}
 use Rattle.worker.proofs.Tables.{AllFrom, end, _then_, row-at}
@@ -35,9 +34,8 @@ whole-record w e =
         cond (within 17 21 (w .stage)) (within 1 3 (w .answer)) (eqb (w .answer) 0) ≡ true → not late || within 1 3 (w .answer) ≡ true
     answered false at given = refl
     answered true at given =
-        let range = and-eq-true-iff _ _ .0 at in
-        let low = leb-true 19 (w .stage) (range .0) in
-        rw (in-range 17 21 (w .stage) (omega arith) (leb-true (w .stage) 21 (range .1))) at given
+        let range = and-eq-true-iff (leb 19 (w .stage)) (leb (w .stage) 21) .0 at in
+        rw (in-range 17 21 (w .stage) (omega (arith, leb-true 19 (w .stage) (range .0))) (leb-true (w .stage) 21 (range .1))) at given
 
 -- `then`, where the proof of a row needs to know the row
 infixr 5 _also_
@@ -64,18 +62,15 @@ module _ {nodes : ℕ} {s : State} (inv : Inv nodes s) where
   leads {n} there = lt-leb nodes (s .next n) (inv .shape .inside n there)
 
   module _ (workers w : ℕ) where
-    -- the worker's record, and what its turn sees
+    -- the worker's record
     abbrev me : Worker
     me = s .worker w
-
-    abbrev seen : Seen
-    seen = seenIn workers nodes s w
 
     -- where the promise of a stage is kept, the numbers that it reads pass the tests, and so do the links that it follows
     abbrev Fits : ℕ → Promise → Type 0
     Fits stage P =
         P nodes s w (me .key) (me .pred) (me .curr) (me .spare) →
-        placed (withStage me stage) nodes && not (astray (withStage me stage) seen) ≡ true
+        placed (withStage me stage) nodes && not (astray (withStage me stage) (seenIn workers nodes s w)) ≡ true
 
     -- so it is at every stage
     rows-fit : AllFrom Fits 0 promises
@@ -119,7 +114,6 @@ module _ {nodes : ℕ} {s : State} (inv : Inv nodes s) where
               let last = le-ltb lastStage (me .stage) (omega (arith, stage-below w)) in
               let whole = whole-record me (inv .works w .sane-record busy) in
               let fits = row-at Fits (me .stage) promises _ rows-fit (λ m out broken. absurd broken) (inv .works w .promise) in
-              let places = and-eq-true-iff (placed me nodes) (not (astray me seen)) .0 fits in
-              let follows = not-true (astray me seen) (places .1) in
-              rw (ne-eqb (me .stage) 0 busy, last, whole .0, whole .1, places .0, follows) (refl, (refl, (refl, (refl, (refl, tt)))))
+              let places : (placed me nodes ≡ true) × (not (astray me (seenIn workers nodes s w)) ≡ true) = and-eq-true-iff _ _ .0 fits in
+              rw (ne-eqb (me .stage) 0 busy) (last, (rw (whole .0), (rw (whole .1), (rw (places .0), (not-true _ (places .1), tt)))))
         ]

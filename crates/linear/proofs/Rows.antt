@@ -139,7 +139,7 @@ module _ {nodes : ℕ} {s : State} (inv : Inv nodes s) (me : ℕ) where
       known m (in-spare same) = rw same q
 
   -- the test on the record, by its parts
-  sane-parts : {n : ℕ} → w .stage ≡ n → n ≢ 0 →
+  pub sane-parts : {n : ℕ} → w .stage ≡ n → n ≢ 0 →
       (belongs n (w .operation) ≡ true) × (isKey (w .key) ≡ true) × (cond (within 17 21 n) (within 1 3 (w .answer)) (eqb (w .answer) 0) ≡ true)
   sane-parts at busy = parts _ _ _ (sane-at inv me at busy)
 

@@ -73,7 +73,7 @@ module _ {before after : ℕ → Bool} {operation key answer : ℕ} where
   does-answered (finds o a present stays) holds = rw (o, a, holds .1 key ∙ present) (refl, kept holds stays)
 
   -- and the call is not a contains that answers no
-  does-early : Does before after operation key answer → isLate operation answer ≡ false
+  pub does-early : Does before after operation key answer → isLate operation answer ≡ false
   does-early (adds o a absent changes) = rw o
   does-early (adds-not o a present stays) = rw o
   does-early (is-full o a absent stays) = rw o

@@ -11,7 +11,8 @@ use borrow.Author.Tests.{lt-ltb, le-ltb}
 use Rattle.worker.specs.Worker.{isCall, idleWorker}
 use Rattle.worker.specs.declared.Worker.{Worker}
 use Rattle.worker.specs.declared.report.Step.{Step}
-use Rattle.arena.specs.Layout.{goodCounts, workersOf}
+use Rattle.worker.proofs.TurnLaws.{step-row}
+use Rattle.arena.specs.Layout.{goodCounts}
 use Rattle.arena.specs.Records.{workerAt}
 use Rattle.arena.proofs.Bounds.{counts}
 use Rattle.linear.specs.Lists.{member}
@@ -52,6 +53,7 @@ module _ (workers nodes : ℕ) (entries : List Entry) where
       isCall (entryFrom time .act) (entryFrom time .key) ≡ true → entryFrom time .worker < workers →
       stateAt (suc time) ≡ stepped (stateAt time) (entryFrom time .worker) (startStep (entryFrom time .act) (entryFrom time .key)) → Happens time
     turn : (step : Step) → eventAt workers nodes entries (suc time) ≡ turnReported (step .report) → Row nodes (stateAt time) (entryFrom time .worker) step →
+      (stateAt time .worker (entryFrom time .worker) .stage ≡ 0 → step .worker ≡ stateAt time .worker (entryFrom time .worker)) →
       stateAt (suc time) ≡ stepped (stateAt time) (entryFrom time .worker) step → Happens time
 
   module _ (good : goodCounts workers nodes ≡ true) where
@@ -88,13 +90,14 @@ module _ (workers nodes : ℕ) (entries : List Entry) where
     happening time inv (starts event turning known idle call next) = start (event-from time ∙ event) idle call known next
     happening time inv (turns event turning known next) =
         turn (turnStep workers nodes (stateAt time) (entryFrom time .worker)) (event-from time ∙ event)
-        (row-at-time time (entryFrom time .worker) inv) next
+        (row-at-time time (entryFrom time .worker) inv)
+        (λ idle. ap (λ (step : Step). step .worker) (step-row (stateAt time .worker (entryFrom time .worker)) _ _ idle)) next
 
     inv-next : (time : ℕ) → Inv nodes (stateAt time) → Happens time → Inv nodes (stateAt (suc time))
     inv-next time inv (nothing s r f same) = subst (λ arena. Inv nodes (decode arena)) (sym same) inv
     inv-next time inv (start event idle call known next) =
         subst (Inv nodes) (sym next) (start-inv inv (entryFrom time .worker) (entryFrom time .act) (entryFrom time .key) idle call)
-    inv-next time inv (turn step event row next) = subst (Inv nodes) (sym next) (row-inv inv (entryFrom time .worker) row)
+    inv-next time inv (turn step event row idle next) = subst (Inv nodes) (sym next) (row-inv inv (entryFrom time .worker) row)
 
     -- the invariant holds at every time
     pub always : (time : ℕ) → Inv nodes (stateAt time)
