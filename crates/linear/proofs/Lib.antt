@@ -25,3 +25,4 @@ pub mod Timeline
 pub mod Keys
 pub mod Phases
 pub mod Points
+pub mod Theorem

@@ -157,3 +157,10 @@ pub pairs-mapped : {B : Type 0} (f : ℕ → B) (test : ℕ → Bool) (R : B →
     ((s t : ℕ) → time ≤ s → s < t → t < time + left → test s ≡ true → test t ≡ true → R (f s) (f t)) →
     Pairs R (map f (filter test (timesFrom time left)))
 pairs-mapped f test R time left holds = pairs-map f (pairs-times test (λ s t. R (f s) (f t)) time left holds)
+
+-- a relation that follows from another, between elements of which something holds
+pub pairs-weaken : {A : Type 0} {P : A → Type 0} {R S : A → A → Type 0} {xs : List A} → ((a b : A) → P a → P b → R a b → S a b) →
+    Each P xs → Pairs R xs → Pairs S xs
+pairs-weaken weaker each alone = alone
+pairs-weaken weaker (first and others) (_ahead_ {x} {xs} related pairs) =
+    each-of xs (λ y m. weaker x y first (each-in others m) (each-in related m)) ahead pairs-weaken weaker others pairs

@@ -3,7 +3,7 @@ use Prim.Native.Nat.{ℕ, zero, suc, _-_, _≤_, _<_}
 use mathlib.Core.Path.{_≡_, refl, sym, ap, subst, _∙_}
 use mathlib.Core.Logic.{_⊎_, inl, inr, ⊎-elim, _≢_}
 use mathlib.Core.List.{List}
-use mathlib.Core.Bool.{Bool, true, false, cond, _&&_, and-false, and-eq-true-iff}
+use mathlib.Core.Bool.{Bool, true, false, cond, _&&_, true≢false, and-false, and-eq-true-iff}
 use mathlib.Mathlib.Data.Bool.Basic.{dichotomy}
 use native.Mathlib.Omega.{arith}
 use native.Mathlib.Decide.{ℕ-discrete}
@@ -71,6 +71,24 @@ module _ (workers nodes : ℕ) (entries : List Entry) (good : goodCounts workers
   longer : {from upto key : ℕ} → Since from upto key → Since from (suc upto) key
   longer a = record { time = a .time; begun = a .begun; past = omega (arith, a .past); absent = a .absent }
 
+  -- an entry that is no turn of a worker decides and finishes nothing of its call
+  not-decided : (v now : ℕ) → (isReported (eventAt workers nodes entries (suc now)) ≡ false) ⊎ (entryFrom workers nodes entries now .worker ≢ v) →
+      decidesAt workers nodes entries v (suc now) ≡ false
+  unfolding decidesAt
+  not-decided v now (inl e) = rw e
+  not-decided v now (inr d) = rw (ne-eqb (entryFrom workers nodes entries now .worker) v d, and-false)
+
+  not-finished : (v now : ℕ) → (isFinished (eventAt workers nodes entries (suc now)) ≡ false) ⊎ (entryFrom workers nodes entries now .worker ≢ v) →
+      finishesAt workers nodes entries v (suc now) ≡ false
+  unfolding finishesAt
+  not-finished v now (inl e) = rw e
+  not-finished v now (inr d) = rw (ne-eqb (entryFrom workers nodes entries now .worker) v d, and-false)
+
+  -- so a turn that decides a worker's answer is one of that worker
+  pub decider : (v now : ℕ) → decidesAt workers nodes entries v (suc now) ≡ true → entryFrom workers nodes entries now .worker ≡ v
+  decider v now e =
+      ⊎-elim (λ own. own) (λ other. absurd (true≢false (sym e ∙ not-decided v now (inr other)))) (same? (entryFrom workers nodes entries now .worker) v)
+
   -- the call of worker v, of an operation and a key, that starts at a time
   module _ (v : ℕ) (known : v < workers) (operation key begin : ℕ) where
     -- at a time it goes on, and has not finished so far
@@ -95,11 +113,11 @@ module _ (workers nodes : ℕ) (entries : List Entry) (good : goodCounts workers
 
     pub data Phase (now : ℕ) : Type 0 where
       runs : Open now → state now .worker v .answer ≡ 0 →
-        ((time : ℕ) → begin < time → time ≤ now → decidesAt workers nodes entries v time ≡ false) →
-        (22 ≤ state now .worker v .stage → Since begin now key ⊎ Ahead (state now) (spot (state now .worker v)) key) → Phase now
+          ((time : ℕ) → begin < time → time ≤ now → decidesAt workers nodes entries v time ≡ false) →
+          (22 ≤ state now .worker v .stage → Since begin now key ⊎ Ahead (state now) (spot (state now .worker v)) key) → Phase now
       closes : Open now → state now .worker v .answer ≢ 0 → (time : ℕ) → time < now → Decided time → Phase now
       finished : (time finish : ℕ) → time < finish → finish < now → Decided time → finishesAt workers nodes entries v (suc finish) ≡ true →
-        state (suc finish) .worker v .stage ≡ 0 → ((t : ℕ) → begin < t → t ≤ finish → finishesAt workers nodes entries v t ≡ false) → Phase now
+          state (suc finish) .worker v .stage ≡ 0 → ((t : ℕ) → begin < t → t ≤ finish → finishesAt workers nodes entries v t ≡ false) → Phase now
 
     -- what holds up to now, and of the next time, holds up to that
     up-to : {P : ℕ → Type 0} {now : ℕ} → ((time : ℕ) → begin < time → time ≤ now → P time) → P (suc now) →
@@ -110,20 +128,7 @@ module _ (workers nodes : ℕ) (entries : List Entry) (good : goodCounts workers
         go (inl e) = subst P (sym e) next
         go (inr d) = before time after (omega arith)
 
-    -- an entry that is no turn of v decides and finishes nothing of its
-    not-decided : (now : ℕ) → (isReported (eventAt workers nodes entries (suc now)) ≡ false) ⊎ (entryFrom workers nodes entries now .worker ≢ v) →
-        decidesAt workers nodes entries v (suc now) ≡ false
-    unfolding decidesAt
-    not-decided now (inl e) = rw e
-    not-decided now (inr d) = rw (ne-eqb (entryFrom workers nodes entries now .worker) v d, and-false)
-
-    not-finished : (now : ℕ) → (isFinished (eventAt workers nodes entries (suc now)) ≡ false) ⊎ (entryFrom workers nodes entries now .worker ≢ v) →
-        finishesAt workers nodes entries v (suc now) ≡ false
-    unfolding finishesAt
-    not-finished now (inl e) = rw e
-    not-finished now (inr d) = rw (ne-eqb (entryFrom workers nodes entries now .worker) v d, and-false)
-
-    -- and a turn of v is judged by its stage and the answer it keeps then
+    -- a turn of the worker is judged by its stage and the answer it keeps then
     turn-decides : (now : ℕ) {report : Report} → eventAt workers nodes entries (suc now) ≡ turnReported report →
         entryFrom workers nodes entries now .worker ≡ v →
         decidesAt workers nodes entries v (suc now) ≡ decides (state now .worker v .stage) (state (suc now) .worker v .answer)
@@ -286,7 +291,7 @@ module _ (workers nodes : ℕ) (entries : List Entry) (good : goodCounts workers
             (entryFrom workers nodes entries now .worker ≡ v) ⊎ (entryFrom workers nodes entries now .worker ≢ v) → Phase (suc now)
         by-start event idle next (inl own) = idle-kept phase (subst (λ w. state now .worker w .stage ≡ 0) own idle)
         by-start event idle next (inr other) =
-            stands-by now (not-decided now (inr other)) (not-finished now (inr other))
+            stands-by now (not-decided v now (inr other)) (not-finished v now (inr other))
             (ap (λ (s : State). s .worker v) next ∙ rw (ne-eqb v (entryFrom workers nodes entries now .worker) (λ e. other (sym e)))) phase
 
         by-turn : (step : Step) → eventAt workers nodes entries (suc now) ≡ turnReported (step .report) →
@@ -297,12 +302,12 @@ module _ (workers nodes : ℕ) (entries : List Entry) (good : goodCounts workers
             let mine = subst (λ w. Row nodes (state now) w step) own row in
             own-turn now step event own mine (subst (λ w. state (suc now) ≡ stepped (state now) w step) own next) phase (mine .course)
         by-turn step event row next (inr other) =
-            stands-by now (not-decided now (inr other)) (not-finished now (inr other))
+            stands-by now (not-decided v now (inr other)) (not-finished v now (inr other))
             (ap (λ (s : State). s .worker v) next ∙ others-after (always workers nodes entries good now) _ (row .act) (row .placed) v (λ e. other (sym e))) phase
 
         go : Happens workers nodes entries now → Phase (suc now)
         go (nothing unstarted unreported unfinished same) =
-            stands-by now (not-decided now (inl unreported)) (not-finished now (inl unfinished)) (ap (λ arena. decode arena .worker v) same) phase
+            stands-by now (not-decided v now (inl unreported)) (not-finished v now (inl unfinished)) (ap (λ arena. decode arena .worker v) same) phase
         go (start event idle call there next) = by-start event idle next (same? (entryFrom workers nodes entries now .worker) v)
         go (turn step event row idle next) = by-turn step event row next (same? (entryFrom workers nodes entries now .worker) v)
 

@@ -75,13 +75,13 @@ module _ (workers nodes : ℕ) (entries : List Entry) (good : goodCounts workers
     -- what becomes of the call up to the end: nothing is decided; or it acts at its own point; or it is a contains that answers no
     pub data Fate : Type 0 where
       waits : callAt workers nodes entries (suc time) ≡ made 0 0 0 →
-        ((t : ℕ) → suc time < t → t ≤ last → decidesAt workers nodes entries v t ≡ false) → Fate
+          ((t : ℕ) → suc time < t → t ≤ last → decidesAt workers nodes entries v t ≡ false) → Fate
       acted : (t finish : ℕ) → DecidedAt t → t < last → (finish ≡ 0) ⊎ (suc t < finish) →
-        Does (has workers nodes entries t) (has workers nodes entries (suc t)) operation key (answerAt t) →
-        callAt workers nodes entries (suc time) ≡ made (suc t) finish (answerAt t) → Fate
+          Does (has workers nodes entries t) (has workers nodes entries (suc t)) operation key (answerAt t) →
+          callAt workers nodes entries (suc time) ≡ made (suc t) finish (answerAt t) → Fate
       looked : (t finish point : ℕ) → DecidedAt t → t < last → (finish ≡ 0) ⊎ (suc t < finish) →
-        operation ≡ contains → answerAt t ≡ answerNumber No → has workers nodes entries point key ≡ false →
-        suc time ≤ point → point ≤ suc t → callAt workers nodes entries (suc time) ≡ made point finish (answerAt t) → Fate
+          operation ≡ contains → answerAt t ≡ answerNumber No → has workers nodes entries point key ≡ false →
+          suc time ≤ point → point ≤ suc t → callAt workers nodes entries (suc time) ≡ made point finish (answerAt t) → Fate
 
     -- the record of a call that is decided, with the last of its turns
     module _ (t finish until : ℕ) (it : DecidedAt t) (in-time : t < last) (later : (finish ≡ 0) ⊎ (suc t < finish))

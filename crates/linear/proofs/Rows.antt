@@ -49,22 +49,22 @@ module _ {nodes : ℕ} {s : State} {w : ℕ} {e : Effect} (act : Act nodes s w e
     goes-in : Adds act → s .worker w .operation ≡ add → new .answer ≡ answerNumber Yes → Verdict
     goes-out : Takes act → s .worker w .operation ≡ remove → new .answer ≡ answerNumber Yes → Verdict
     present : Keeps act → In s (s .worker w .key) →
-      ((s .worker w .operation ≡ add) × (new .answer ≡ answerNumber No)) ⊎ ((s .worker w .operation ≡ contains) × (new .answer ≡ answerNumber Yes)) →
-      Verdict
+        ((s .worker w .operation ≡ add) × (new .answer ≡ answerNumber No)) ⊎ ((s .worker w .operation ≡ contains) × (new .answer ≡ answerNumber Yes)) →
+        Verdict
     missing : Keeps act → (In s (s .worker w .key) → ⊥) →
-      ((s .worker w .operation ≡ add) × (new .answer ≡ answerNumber Full)) ⊎ ((s .worker w .operation ≡ remove) × (new .answer ≡ answerNumber No)) →
-      Verdict
+        ((s .worker w .operation ≡ add) × (new .answer ≡ answerNumber Full)) ⊎ ((s .worker w .operation ≡ remove) × (new .answer ≡ answerNumber No)) →
+        Verdict
     late : Keeps act → s .worker w .operation ≡ contains → new .answer ≡ answerNumber No → 23 ≤ s .worker w .stage →
-      (Ahead s (s .worker w .curr) (s .worker w .key) → ⊥) → Verdict
+        (Ahead s (s .worker w .curr) (s .worker w .key) → ⊥) → Verdict
 
   -- how a call goes on by a turn: an idle worker rests, a turn goes on, or decides the answer, or finishes
   pub data Course (report : Report) : Type 0 where
     rests : Keeps act → s .worker w .stage ≡ 0 → new ≡ s .worker w → isFinished (turnReported report) ≡ false → Course report
     goes-on : Keeps act → Continues (s .worker w) new → new .answer ≡ s .worker w .answer →
-      decides (s .worker w .stage) (new .answer) ≡ false → isFinished (turnReported report) ≡ false →
-      (22 ≤ new .stage → (22 ≤ s .worker w .stage) × (Ahead s (spot (s .worker w)) (s .worker w .key) → Ahead s (spot new) (s .worker w .key))) → Course report
+        decides (s .worker w .stage) (new .answer) ≡ false → isFinished (turnReported report) ≡ false →
+        (22 ≤ new .stage → (22 ≤ s .worker w .stage) × (Ahead s (spot (s .worker w)) (s .worker w .key) → Ahead s (spot new) (s .worker w .key))) → Course report
     settles : Verdict → Continues (s .worker w) new → s .worker w .answer ≡ 0 → new .answer ≢ 0 →
-      decides (s .worker w .stage) (new .answer) ≡ true → isFinished (turnReported report) ≡ false → new .stage < 22 → Course report
+        decides (s .worker w .stage) (new .answer) ≡ true → isFinished (turnReported report) ≡ false → new .stage < 22 → Course report
     ends : Keeps act → s .worker w .stage ≡ 21 → new .stage ≡ 0 → isFinished (turnReported report) ≡ true → Course report
 
 -- all of it
@@ -160,9 +160,9 @@ module _ {nodes : ℕ} {s : State} (inv : Inv nodes s) (me : ℕ) where
         placed = placed;
         standing = record { promise = promise; sane-record = λ busy. good };
         course =
-          goes-on keeps continues same (subst (λ a. decides (w .stage) a ≡ false) (sym same) (subst (λ k. decides k (w .answer) ≡ false) (sym at) silent))
-          unfinished
-          (λ later. subst (λ k. (22 ≤ k) × (Ahead s (cond (eqb k 22) 0 (w .curr)) (w .key) → Ahead s (spot new) (w .key))) (sym at) (onward later));
+            goes-on keeps continues same (subst (λ a. decides (w .stage) a ≡ false) (sym same) (subst (λ k. decides k (w .answer) ≡ false) (sym at) silent))
+            unfinished
+            (λ later. subst (λ k. (22 ≤ k) × (Ahead s (cond (eqb k 22) 0 (w .curr)) (w .key) → Ahead s (spot new) (w .key))) (sym at) (onward later));
       }
 
   -- a turn that goes to a stage, where pred, curr and spare are p, c and q then
@@ -267,8 +267,8 @@ module _ {nodes : ℕ} {s : State} (inv : Inv nodes s) (me : ℕ) where
       owns-row at (omega arith) 8 (w .curr) (suc me) refl (inl (eqb-true _ _ t))
       (record {
         held =
-          pred-held-kept _ me (w .key) (w .pred) (w .curr) (λ n h l. refl)
-          (λ n h l o. written (λ a. a ≡ suc me) n (w .curr) (suc me) (s .owner n) (λ e. refl) (λ d. o)) f;
+            pred-held-kept _ me (w .key) (w .pred) (w .curr) (λ n h l. refl)
+            (λ n h l o. written (λ a. a ≡ suc me) n (w .curr) (suc me) (s .owner n) (λ e. refl) (λ d. o)) f;
         owns = at-node (w .curr) (w .curr) (suc me) _ refl;
       })
       (sane-at inv me at (omega arith)) refl
@@ -328,8 +328,8 @@ module _ {nodes : ℕ} {s : State} (inv : Inv nodes s) (me : ℕ) where
         placed = steps _ _ unfilled pred-known curr-known spare-known;
         standing = record { promise = promise; sane-record = λ busy. good };
         course =
-          settles verdict (record { busy = omega arith; operation = refl; key = refl }) undecided decided
-          (subst (λ k. decides k answer ≡ true) (sym at) settled) refl (omega arith);
+            settles verdict (record { busy = omega arith; operation = refl; key = refl }) undecided decided
+            (subst (λ k. decides k answer ≡ true) (sym at) settled) refl (omega arith);
       }
 
   -- an unmarked node with the key that the worker holds is in the set
@@ -417,8 +417,8 @@ module _ {nodes : ℕ} {s : State} (inv : Inv nodes s) (me : ℕ) where
         record {
           unlinked = λ m live. unlinked m (live-after inv me fill fill-places live);
           unheld =
-            λ u m d held e.
-            apart (live-held u (subst (λ (r : Worker). Holds r m) (others-after inv me fill fill-places u d) held) (rw e inside)) e;
+              λ u m d held e.
+              apart (live-held u (subst (λ (r : Worker). Holds r m) (others-after inv me fill fill-places u d) held) (rw e inside)) e;
           not-head = λ e. apart (live-chain (here refl)) (sym e);
           not-tail = λ e. apart live-tail (sym e);
         }
@@ -434,9 +434,9 @@ module _ {nodes : ℕ} {s : State} (inv : Inv nodes s) (me : ℕ) where
         goes-row at (withStage (withSpare w x) 15) (Moved 15) fill tt fill-places
         (record {
           gap =
-            gap-kept _ me (w .key) (w .pred) (w .curr) (λ n h l. off-node n x (w .key) (s .key n) (place-apart h l))
-            (λ n h l o. off-node n x 0 (s .owner n) (place-apart h l) ∙ o)
-            (λ n h l o. (off-node n x (w .curr) (s .next n) (place-apart h l), off-node n x 0 (s .mark n) (place-apart h l))) gap;
+              gap-kept _ me (w .key) (w .pred) (w .curr) (λ n h l. off-node n x (w .key) (s .key n) (place-apart h l))
+              (λ n h l o. off-node n x 0 (s .owner n) (place-apart h l) ∙ o)
+              (λ n h l o. (off-node n x (w .curr) (s .next n) (place-apart h l), off-node n x 0 (s .mark n) (place-apart h l))) gap;
           spare-in = inside;
           alone = fill-private;
           not-pred = place-apart (inl refl) (gap .neighbours .stay .stays .held .held .found .searching .pred-in);
@@ -483,10 +483,10 @@ module _ {nodes : ℕ} {s : State} (inv : Inv nodes s) (me : ℕ) where
       settles-row at 17 1 (marks (omega arith) (in-range at (omega arith)) f) (λ k f. f)
       (record {
         stays =
-          record {
-            held = both-held-kept _ me (w .key) (w .pred) (w .curr) (λ n h l. refl) (λ n h l o. o) (stays .held);
-            unmarked = off-node (w .pred) (w .curr) 1 _ (two-nodes inv me (stays .held .held .found)) ∙ stays .unmarked;
-          };
+            record {
+              held = both-held-kept _ me (w .key) (w .pred) (w .curr) (λ n h l. refl) (λ n h l o. o) (stays .held);
+              unmarked = off-node (w .pred) (w .curr) 1 _ (two-nodes inv me (stays .held .held .found)) ∙ stays .unmarked;
+            };
         leads = f .neighbours .leads;
         hit = f .hit;
         marked = rw (at-node (w .curr) (w .curr) 1 (s .mark (w .curr)) refl) (omega arith);
@@ -589,9 +589,9 @@ module _ {nodes : ℕ} {s : State} (inv : Inv nodes s) (me : ℕ) where
         act = quiet (omega arith);
         placed = steps _ _ (λ k f. f) pred-known curr-known spare-known;
         standing =
-          record {
-            promise = subst (λ k. promiseAt k nodes (stepped s me (reports w Idle)) me (w .key) (w .pred) (w .curr) (w .spare)) (sym at) tt;
-            sane-record = λ busy. absurd (busy at);
-          };
+            record {
+              promise = subst (λ k. promiseAt k nodes (stepped s me (reports w Idle)) me (w .key) (w .pred) (w .curr) (w .spare)) (sym at) tt;
+              sane-record = λ busy. absurd (busy at);
+            };
         course = rests tt at refl refl;
       }

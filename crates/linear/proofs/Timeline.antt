@@ -48,13 +48,13 @@ module _ (workers nodes : ℕ) (entries : List Entry) where
   -- what happens between a time and the next: nothing, a start on an idle worker, or a turn
   pub data Happens (time : ℕ) : Type 0 where
     nothing : isStarted (eventAt workers nodes entries (suc time)) ≡ false → isReported (eventAt workers nodes entries (suc time)) ≡ false →
-      isFinished (eventAt workers nodes entries (suc time)) ≡ false → arenaAt workers nodes entries (suc time) ≡ arenaAt workers nodes entries time → Happens time
+        isFinished (eventAt workers nodes entries (suc time)) ≡ false → arenaAt workers nodes entries (suc time) ≡ arenaAt workers nodes entries time → Happens time
     start : eventAt workers nodes entries (suc time) ≡ callStarted → stateAt time .worker (entryFrom time .worker) .stage ≡ 0 →
-      isCall (entryFrom time .act) (entryFrom time .key) ≡ true → entryFrom time .worker < workers →
-      stateAt (suc time) ≡ stepped (stateAt time) (entryFrom time .worker) (startStep (entryFrom time .act) (entryFrom time .key)) → Happens time
+        isCall (entryFrom time .act) (entryFrom time .key) ≡ true → entryFrom time .worker < workers →
+        stateAt (suc time) ≡ stepped (stateAt time) (entryFrom time .worker) (startStep (entryFrom time .act) (entryFrom time .key)) → Happens time
     turn : (step : Step) → eventAt workers nodes entries (suc time) ≡ turnReported (step .report) → Row nodes (stateAt time) (entryFrom time .worker) step →
-      (stateAt time .worker (entryFrom time .worker) .stage ≡ 0 → step .worker ≡ stateAt time .worker (entryFrom time .worker)) →
-      stateAt (suc time) ≡ stepped (stateAt time) (entryFrom time .worker) step → Happens time
+        (stateAt time .worker (entryFrom time .worker) .stage ≡ 0 → step .worker ≡ stateAt time .worker (entryFrom time .worker)) →
+        stateAt (suc time) ≡ stepped (stateAt time) (entryFrom time .worker) step → Happens time
 
   module _ (good : goodCounts workers nodes ≡ true) where
     -- the header stays in order

@@ -17,17 +17,17 @@ module _ (workers nodes : ℕ) (entries : List Entry) where
     -- the calls that have reached their points, taken whole and one after another by the sequential set, have the same answers there as
     -- turn by turn
     pub same-answers :
-      answersTo [] (inOrder workers nodes entries) ≡ map (λ (call : Call). call .answer) (inOrder workers nodes entries)
+        answersTo [] (inOrder workers nodes entries) ≡ map (λ (call : Call). call .answer) (inOrder workers nodes entries)
     -- no call's point is before its start
     pub started-before : (call : Call) → List·Memᴰ call (calls workers nodes entries) → call .point ≢ 0 → call .start ≤ call .point
     -- every finished call has reached its point before its finish
     pub reached-before : (call : Call) → List·Memᴰ call (calls workers nodes entries) → call .finish ≢ 0 →
-      (call .point ≢ 0) × (call .point < call .finish)
+        (call .point ≢ 0) × (call .point < call .finish)
     -- the sequential set holds exactly the arena's set
     pub same-keys : keysAfter [] (inOrder workers nodes entries) ≡ setOf (arenaAt workers nodes entries (length entries))
 
   -- beside it: no turn from a fresh arena meets 6 or 7
-  pub Unbroken : Type 0
+  abbrev pub Unbroken : Type 0
   Unbroken =
       (time : ℕ) → isTurn (entryAt workers nodes entries time) ≡ true →
       (eventAt workers nodes entries time ≢ entryRefused brokenRecord) × (eventAt workers nodes entries time ≢ entryRefused brokenChain)
