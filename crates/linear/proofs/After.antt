@@ -5,13 +5,12 @@ use mathlib.Core.Logic.{_⊎_, inl, inr, ⊎-elim, _≢_}
 use native.Mathlib.Omega.{arith}
 use borrow.Author.Tests.{eq-eqb, ne-eqb}
 use Rattle.worker.specs.declared.Worker.{Worker}
-use Rattle.worker.specs.declared.report.Report.{Report}
 use Rattle.worker.specs.declared.report.Step.{Step}
 use Rattle.worker.specs.declared.report.Effect.{Effect}
 use Rattle.arena.specs.Layout.{nodeKey, nodeNext}
-use Rattle.linear.proofs.Reach.{Reach, here, on, join, one-more, along, same?}
+use Rattle.linear.proofs.Reach.{Reach, here, on, join, along, same?}
 use Rattle.linear.proofs.State.{State, wordAfter, stepped}
-use Rattle.linear.proofs.Promises.{Holds, in-pred, in-curr, in-spare, Root, head, tail, held, Live, Private}
+use Rattle.linear.proofs.Promises.{Holds, in-pred, in-curr, Root, head, tail, held, Live}
 use Rattle.linear.proofs.Invariant.{Stands, dead, chained, new, Nodes, Inv, live-held, live-next, live-chain, live-tail, live-in, not-tail, on-chain}
 use Rattle.linear.proofs.Effects.{Known, old, top, far, link, Act, quiet, owns, fills, links, marks, unlinks, Fills, at-node, off-node, written, inside-after, key-after, leads-after, rises-after, run-after, dead-after, touched-after, owner-after}
 

@@ -6,14 +6,13 @@ use mathlib.Core.Bool.{cond}
 use native.Mathlib.Omega.{arith}
 use lib.Dec.{eqb}
 use borrow.Author.Tests.{eq-eqb, ne-eqb}
-use Rattle.worker.specs.declared.Worker.{Worker}
 use Rattle.worker.specs.declared.report.Effect.{Effect}
 use Rattle.worker.specs.declared.report.Effect.the-variants.{Nothing, SetOwner, SetNext, SetMark, Fill}
 use Rattle.arena.specs.Layout.{nodeKey, nodeNext, nodeMark, nodeOwner}
-use Rattle.linear.proofs.Reach.{Reach, here, on, join, one-more, along, carry, same?, Skip, skip, skip-back}
+use Rattle.linear.proofs.Reach.{Reach, here, carry, same?, Skip, skip, skip-back}
 use Rattle.linear.proofs.State.{State, shapeOf, wordAfter}
-use Rattle.linear.proofs.Promises.{Holds, in-pred, in-curr, in-spare, Root, head, tail, held, Live, Searching, Found, Gap, Filled, Hit, Bypassed}
-use Rattle.linear.proofs.Invariant.{Stands, dead, chained, new, Nodes, Inv, Range, live-held, live-next, live-chain, live-tail, on-chain, not-head, not-tail, live-in}
+use Rattle.linear.proofs.Promises.{Holds, in-pred, in-curr, in-spare, held, Live, Searching, Found, Gap, Filled, Hit, Bypassed}
+use Rattle.linear.proofs.Invariant.{Inv, Range, live-held, live-next, live-chain, not-tail}
 
 -- a word at node n, where node p was written
 pub at-node : (n p v old : ℕ) → n ≡ p → cond (eqb n p) v old ≡ v

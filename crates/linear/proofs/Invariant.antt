@@ -8,7 +8,7 @@ use borrow.Author.Tests.{leb-true}
 use Rattle.worker.specs.Worker.{isKey}
 use Rattle.linear.proofs.Reach.{Reach, here, on, one-more, linear, along, rise, same?}
 use Rattle.linear.proofs.State.{State}
-use Rattle.linear.proofs.Promises.{Holds, Root, head, tail, held, Live, Searching, BothHeld, PredStays, Neighbours, Filled, Found, promises, promiseAt, sane, Standing}
+use Rattle.linear.proofs.Promises.{Holds, Root, head, tail, held, Live, promises, promiseAt, sane, Standing}
 
 module _ (s : State) where
   -- a live node is marked, or on the chain, or a new one that nobody else can come to

@@ -25,4 +25,6 @@ pub mod Timeline
 pub mod Keys
 pub mod Phases
 pub mod Points
+pub mod Calls
+pub mod Openings
 pub mod Theorem

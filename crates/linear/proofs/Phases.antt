@@ -1,8 +1,7 @@
 -- A call from its start on: it runs, then its answer is decided, then it is finished.
-use Prim.Native.Nat.{ℕ, zero, suc, _-_, _≤_, _<_}
+use Prim.Native.Nat.{ℕ, zero, suc, _≤_, _<_}
 use mathlib.Core.Path.{_≡_, refl, sym, ap, subst, _∙_}
 use mathlib.Core.Logic.{_⊎_, inl, inr, ⊎-elim, _≢_}
-use mathlib.Core.List.{List}
 use mathlib.Core.Bool.{Bool, true, false, cond, _&&_, true≢false, and-false, and-eq-true-iff}
 use mathlib.Mathlib.Data.Bool.Basic.{dichotomy}
 use native.Mathlib.Omega.{arith}
@@ -10,26 +9,23 @@ use native.Mathlib.Decide.{ℕ-discrete}
 use native.Mathlib.Numerals.{sub-one}
 use lib.Dec.{eqb, leb}
 use borrow.Author.Tests.{leb-true, eq-eqb, ne-eqb}
-use Rattle.worker.specs.Worker.{contains, isCall, startedWorker, firstStage}
+use Rattle.worker.specs.Worker.{contains, startedWorker, firstStage}
 use Rattle.worker.specs.Report.{answerNumber}
 use Rattle.worker.specs.declared.Worker.{Worker}
 use Rattle.worker.specs.declared.report.Answer.the-variants.{No}
 use Rattle.worker.specs.declared.report.Report.{Report}
 use Rattle.worker.specs.declared.report.Step.{Step}
-use Rattle.arena.specs.Layout.{goodCounts}
-use Rattle.arena.specs.Records.{workerAt}
-use Rattle.linear.specs.Entries.{Entry, callStarted, turnReported, isReported, isFinished}
-use Rattle.linear.specs.History.{decides, entryAt, arenaAt, eventAt, finishesAt, decidesAt}
+use Rattle.linear.specs.Entries.{callStarted, turnReported, isReported, isFinished}
+use Rattle.linear.specs.History.{decides, finishesAt, decidesAt}
 use Rattle.linear.proofs.Reach.{here, same?}
 use Rattle.linear.proofs.State.{State, decode, stepped, startStep}
 use Rattle.linear.proofs.Promises.{in-curr, Live, promises}
-use Rattle.linear.proofs.Invariant.{In, Ahead, Inv, promised, live-held, live-chain}
-use Rattle.linear.proofs.Effects.{Act, quiet}
+use Rattle.linear.proofs.Invariant.{Ahead, Inv, promised, live-held, live-chain}
 use Rattle.linear.proofs.After.{own-after, others-after, live-after}
 use Rattle.linear.proofs.Rows.{Row, sane-parts, spot, Continues, Verdict, goes-in, goes-out, present, missing, late, Course, rests, goes-on, settles, ends}
 use Rattle.linear.proofs.Passes.{stage-below}
 use Rattle.linear.proofs.Simulation.{Does, adds, adds-not, is-full, removes, removes-not, finds}
-use Rattle.linear.proofs.Timeline.{stateAt, has, entryFrom, Happens, nothing, start, turn, sound, own-worker, always, happens}
+use Rattle.linear.proofs.Timeline.{has, Happens, nothing, start, turn, own-worker, always, happens, Schedule, state, entry, outcome, decisive, finishing}
 use Rattle.linear.proofs.Keys.{present-in, in-present, absent-of, has-kept, has-added, has-taken, ahead-on}
 
 -- a look-up stands on a live node
@@ -54,70 +50,64 @@ answered {s = s} inv v last none =
     let some = and-eq-true-iff (leb 1 (s .worker v .answer)) (leb (s .worker v .answer) 3) .0 (sane-parts inv v last (omega arith) .2) in
     omega (arith, leb-true 1 (s .worker v .answer) (some .0))
 
-module _ (workers nodes : ℕ) (entries : List Entry) (good : goodCounts workers nodes ≡ true) where
-  abbrev state : ℕ → State
-  state time = stateAt workers nodes entries time
-
-  abbrev holds : ℕ → ℕ → Bool
-  holds time key = has workers nodes entries time key
-
+module _ (r : Schedule) where
   -- a key was absent at some time from one to another
   pub record Since (from upto key : ℕ) : Type 0 where
     pub time : ℕ
     pub begun : from ≤ time
     pub past : time ≤ upto
-    pub absent : holds time key ≡ false
+    pub absent : has r time key ≡ false
 
   longer : {from upto key : ℕ} → Since from upto key → Since from (suc upto) key
   longer a = record { time = a .time; begun = a .begun; past = omega (arith, a .past); absent = a .absent }
 
   -- an entry that is no turn of a worker decides and finishes nothing of its call
-  not-decided : (v now : ℕ) → (isReported (eventAt workers nodes entries (suc now)) ≡ false) ⊎ (entryFrom workers nodes entries now .worker ≢ v) →
-      decidesAt workers nodes entries v (suc now) ≡ false
+  not-decided : (v now : ℕ) → (isReported (outcome r now) ≡ false) ⊎ (entry r now .worker ≢ v) →
+      decisive r v (suc now) ≡ false
   unfolding decidesAt
   not-decided v now (inl e) = rw e
-  not-decided v now (inr d) = rw (ne-eqb (entryFrom workers nodes entries now .worker) v d, and-false)
+  not-decided v now (inr d) = rw (ne-eqb (entry r now .worker) v d, and-false)
 
-  not-finished : (v now : ℕ) → (isFinished (eventAt workers nodes entries (suc now)) ≡ false) ⊎ (entryFrom workers nodes entries now .worker ≢ v) →
-      finishesAt workers nodes entries v (suc now) ≡ false
+  not-finished : (v now : ℕ) → (isFinished (outcome r now) ≡ false) ⊎ (entry r now .worker ≢ v) →
+      finishing r v (suc now) ≡ false
   unfolding finishesAt
   not-finished v now (inl e) = rw e
-  not-finished v now (inr d) = rw (ne-eqb (entryFrom workers nodes entries now .worker) v d, and-false)
+  not-finished v now (inr d) = rw (ne-eqb (entry r now .worker) v d, and-false)
 
   -- so a turn that decides a worker's answer is one of that worker
-  pub decider : (v now : ℕ) → decidesAt workers nodes entries v (suc now) ≡ true → entryFrom workers nodes entries now .worker ≡ v
+  pub decider : (v now : ℕ) → decisive r v (suc now) ≡ true → entry r now .worker ≡ v
   decider v now e =
-      ⊎-elim (λ own. own) (λ other. absurd (true≢false (sym e ∙ not-decided v now (inr other)))) (same? (entryFrom workers nodes entries now .worker) v)
+      ⊎-elim (λ own. own) (λ other. absurd (true≢false (sym e ∙ not-decided v now (inr other)))) (same? (entry r now .worker) v)
 
   -- the call of worker v, of an operation and a key, that starts at a time
-  module _ (v : ℕ) (known : v < workers) (operation key begin : ℕ) where
+  module _ (v : ℕ) (known : v < r .workers) (operation key begin : ℕ) where
     -- at a time it goes on, and has not finished so far
     pub record Open (now : ℕ) : Type 0 where
       pub begun : begin ≤ now
-      pub busy : state now .worker v .stage ≢ 0
-      pub same-operation : state now .worker v .operation ≡ operation
-      pub same-key : state now .worker v .key ≡ key
-      pub unfinished : (time : ℕ) → begin < time → time ≤ now → finishesAt workers nodes entries v time ≡ false
+      pub busy : state r now .worker v .stage ≢ 0
+      pub same-operation : state r now .worker v .operation ≡ operation
+      pub same-key : state r now .worker v .key ≡ key
+      pub unfinished : (time : ℕ) → begin < time → time ≤ now → finishing r v time ≡ false
 
     -- what its answer is decided to be: what the call does, whole, at this time; or no of a contains, whose key was absent before
     pub data Settled (time : ℕ) : Type 0 where
-      acts : Does (holds time) (holds (suc time)) operation key (state (suc time) .worker v .answer) → Settled time
-      looks-up : operation ≡ contains → state (suc time) .worker v .answer ≡ answerNumber No → Since begin (suc time) key → Settled time
+      acts : Does (has r time) (has r (suc time)) operation key (state r (suc time) .worker v .answer) → Settled time
+      looks-up : operation ≡ contains → state r (suc time) .worker v .answer ≡ answerNumber No → Since begin (suc time) key → Settled time
 
     -- it is decided by the entry after a time, and not before
     pub record Decided (time : ℕ) : Type 0 where
       pub begun : begin ≤ time
-      pub decided : decidesAt workers nodes entries v (suc time) ≡ true
-      pub undecided : (t : ℕ) → begin < t → t ≤ time → decidesAt workers nodes entries v t ≡ false
+      pub decided : decisive r v (suc time) ≡ true
+      pub undecided : (t : ℕ) → begin < t → t ≤ time → decisive r v t ≡ false
       pub settled : Settled time
 
     pub data Phase (now : ℕ) : Type 0 where
-      runs : Open now → state now .worker v .answer ≡ 0 →
-          ((time : ℕ) → begin < time → time ≤ now → decidesAt workers nodes entries v time ≡ false) →
-          (22 ≤ state now .worker v .stage → Since begin now key ⊎ Ahead (state now) (spot (state now .worker v)) key) → Phase now
-      closes : Open now → state now .worker v .answer ≢ 0 → (time : ℕ) → time < now → Decided time → Phase now
-      finished : (time finish : ℕ) → time < finish → finish < now → Decided time → finishesAt workers nodes entries v (suc finish) ≡ true →
-          state (suc finish) .worker v .stage ≡ 0 → ((t : ℕ) → begin < t → t ≤ finish → finishesAt workers nodes entries v t ≡ false) → Phase now
+      runs : Open now → state r now .worker v .answer ≡ 0 →
+          ((time : ℕ) → begin < time → time ≤ now → decisive r v time ≡ false) →
+          (22 ≤ state r now .worker v .stage → Since begin now key ⊎ Ahead (state r now) (spot (state r now .worker v)) key) → Phase now
+      closes : Open now → state r now .worker v .answer ≢ 0 → (time : ℕ) → time < now → Decided time → Phase now
+      finished : (time finish : ℕ) → time < finish → finish < now → Decided time → finishing r v (suc finish) ≡ true →
+          state r (suc finish) .worker v .stage ≡ 0 → ((t : ℕ) → begin < t → t ≤ finish → finishing r v t ≡ false) → Phase now
 
     -- what holds up to now, and of the next time, holds up to that
     up-to : {P : ℕ → Type 0} {now : ℕ} → ((time : ℕ) → begin < time → time ≤ now → P time) → P (suc now) →
@@ -129,16 +119,16 @@ module _ (workers nodes : ℕ) (entries : List Entry) (good : goodCounts workers
         go (inr d) = before time after (omega arith)
 
     -- a turn of the worker is judged by its stage and the answer it keeps then
-    turn-decides : (now : ℕ) {report : Report} → eventAt workers nodes entries (suc now) ≡ turnReported report →
-        entryFrom workers nodes entries now .worker ≡ v →
-        decidesAt workers nodes entries v (suc now) ≡ decides (state now .worker v .stage) (state (suc now) .worker v .answer)
+    turn-decides : (now : ℕ) {report : Report} → outcome r now ≡ turnReported report →
+        entry r now .worker ≡ v →
+        decisive r v (suc now) ≡ decides (state r now .worker v .stage) (state r (suc now) .worker v .answer)
     unfolding decidesAt
     turn-decides now event own =
-        rw (event, eq-eqb _ _ own, sub-one, own-worker workers nodes entries good now v known, own-worker workers nodes entries good (suc now) v known)
+        rw (event, eq-eqb _ _ own, sub-one, own-worker r now v known, own-worker r (suc now) v known)
 
-    turn-finishes : (now : ℕ) {report : Report} → eventAt workers nodes entries (suc now) ≡ turnReported report →
-        entryFrom workers nodes entries now .worker ≡ v →
-        finishesAt workers nodes entries v (suc now) ≡ isFinished (turnReported report)
+    turn-finishes : (now : ℕ) {report : Report} → outcome r now ≡ turnReported report →
+        entry r now .worker ≡ v →
+        finishing r v (suc now) ≡ isFinished (turnReported report)
     unfolding finishesAt
     turn-finishes now {report} event own = rw (event, eq-eqb _ _ own) (and-true (isFinished (turnReported report)))
       where
@@ -147,16 +137,16 @@ module _ (workers nodes : ℕ) (entries : List Entry) (good : goodCounts workers
         and-true false = refl
 
     -- the key was absent before, or is still ahead of the same node, or is absent now
-    look-kept : (now : ℕ) {from : ℕ} → begin ≤ now → Live nodes (state now) from → Since begin now key ⊎ Ahead (state now) from key →
-        Since begin (suc now) key ⊎ Ahead (state (suc now)) from key
+    look-kept : (now : ℕ) {from : ℕ} → begin ≤ now → Live (r .nodes) (state r now) from → Since begin now key ⊎ Ahead (state r now) from key →
+        Since begin (suc now) key ⊎ Ahead (state r (suc now)) from key
     look-kept now begun live (inl gone) = inl (longer gone)
     look-kept now begun live (inr ahead) =
         ⊎-elim inr (λ gone. inl (record { time = suc now; begun = omega arith; past = omega arith; absent = gone }))
-        (ahead-on workers nodes entries good now live ahead)
+        (ahead-on r now live ahead)
 
     -- an entry that leaves the worker's record as it is
-    stands-by : (now : ℕ) → decidesAt workers nodes entries v (suc now) ≡ false → finishesAt workers nodes entries v (suc now) ≡ false →
-        state (suc now) .worker v ≡ state now .worker v → Phase now → Phase (suc now)
+    stands-by : (now : ℕ) → decisive r v (suc now) ≡ false → finishing r v (suc now) ≡ false →
+        state r (suc now) .worker v ≡ state r now .worker v → Phase now → Phase (suc now)
     stands-by now silent unfinished same phase = go phase
       where
         open-kept : Open now → Open (suc now)
@@ -172,27 +162,27 @@ module _ (workers nodes : ℕ) (entries : List Entry) (good : goodCounts workers
         go : Phase now → Phase (suc now)
         go (runs o undecided none look) =
             runs (open-kept o) (rw same undecided) (up-to none silent)
-            (rw same (λ looks. look-kept now (o .begun) (spot-live (always workers nodes entries good now) v looks) (look looks)))
+            (rw same (λ looks. look-kept now (o .begun) (spot-live (always r now) v looks) (look looks)))
         go (closes o decided time past it) = closes (open-kept o) (rw same decided) time (omega arith) it
         go (finished time finish past earlier it done rest none) = finished time finish past (omega arith) it done rest none
 
     -- a turn of the worker itself
-    module _ (now : ℕ) (step : Step) (event : eventAt workers nodes entries (suc now) ≡ turnReported (step .report))
-        (own : entryFrom workers nodes entries now .worker ≡ v) (row : Row nodes (state now) v step)
-        (next : state (suc now) ≡ stepped (state now) v step) where
+    module _ (now : ℕ) (step : Step) (event : outcome r now ≡ turnReported (step .report))
+        (own : entry r now .worker ≡ v) (row : Row (r .nodes) (state r now) v step)
+        (next : state r (suc now) ≡ stepped (state r now) v step) where
       abbrev before : Worker
-      before = state now .worker v
+      before = state r now .worker v
 
-      inv : Inv nodes (state now)
-      inv = always workers nodes entries good now
+      inv : Inv (r .nodes) (state r now)
+      inv = always r now
 
-      after : state (suc now) .worker v ≡ step .worker
+      after : state r (suc now) .worker v ≡ step .worker
       after = ap (λ (s : State). s .worker v) next ∙ own-after inv v (row .act) (row .placed)
 
-      decides-now : {answer : Bool} → decides (before .stage) (step .worker .answer) ≡ answer → decidesAt workers nodes entries v (suc now) ≡ answer
+      decides-now : {answer : Bool} → decides (before .stage) (step .worker .answer) ≡ answer → decisive r v (suc now) ≡ answer
       decides-now e = turn-decides now event own ∙ ap (λ (w : Worker). decides (before .stage) (w .answer)) after ∙ e
 
-      finishes-now : {answer : Bool} → isFinished (turnReported (step .report)) ≡ answer → finishesAt workers nodes entries v (suc now) ≡ answer
+      finishes-now : {answer : Bool} → isFinished (turnReported (step .report)) ≡ answer → finishing r v (suc now) ≡ answer
       finishes-now e = turn-finishes now event own ∙ e
 
       open-next : Open now → Continues before (step .worker) → isFinished (turnReported (step .report)) ≡ false → Open (suc now)
@@ -206,46 +196,46 @@ module _ (workers nodes : ℕ) (entries : List Entry) (good : goodCounts workers
           }
 
       -- the node that a look-up goes to was live before
-      spot-before : 22 ≤ step .worker .stage → Live nodes (state now) (spot (step .worker))
+      spot-before : 22 ≤ step .worker .stage → Live (r .nodes) (state r now) (spot (step .worker))
       spot-before looks =
-          let live : Live nodes (state (suc now)) (spot (state (suc now) .worker v)) =
-          spot-live (always workers nodes entries good (suc now)) v (rw after looks) in
+          let live : Live (r .nodes) (state r (suc now)) (spot (state r (suc now) .worker v)) =
+          spot-live (always r (suc now)) v (rw after looks) in
           ⊎-elim (λ l. l) (λ filled. absurd (omega (arith, row .placed .fresh _ filled .0)))
-          (live-after inv v (row .act) (row .placed) (subst (λ s. Live nodes s (spot (step .worker))) next (rw after at live)))
+          (live-after inv v (row .act) (row .placed) (subst (λ s. Live (r .nodes) s (spot (step .worker))) next (rw after at live)))
 
       look-next : Open now →
-          (22 ≤ step .worker .stage → (22 ≤ before .stage) × (Ahead (state now) (spot before) (before .key) → Ahead (state now) (spot (step .worker)) (before .key))) →
-          (22 ≤ before .stage → Since begin now key ⊎ Ahead (state now) (spot before) key) →
-          22 ≤ state (suc now) .worker v .stage → Since begin (suc now) key ⊎ Ahead (state (suc now)) (spot (state (suc now) .worker v)) key
+          (22 ≤ step .worker .stage → (22 ≤ before .stage) × (Ahead (state r now) (spot before) (before .key) → Ahead (state r now) (spot (step .worker)) (before .key))) →
+          (22 ≤ before .stage → Since begin now key ⊎ Ahead (state r now) (spot before) key) →
+          22 ≤ state r (suc now) .worker v .stage → Since begin (suc now) key ⊎ Ahead (state r (suc now)) (spot (state r (suc now) .worker v)) key
       look-next o onward look =
           rw (after)
           (λ looks.
           let goes = onward looks in
           look-kept now (o .begun) (spot-before looks)
-          (⊎-elim inl (λ ahead. inr (subst (Ahead (state now) (spot (step .worker))) (o .same-key) (goes .1 (subst (Ahead (state now) (spot before)) (sym (o .same-key)) ahead))))
+          (⊎-elim inl (λ ahead. inr (subst (Ahead (state r now) (spot (step .worker))) (o .same-key) (goes .1 (subst (Ahead (state r now) (spot before)) (sym (o .same-key)) ahead))))
           (look (goes .0))))
 
       -- what a verdict comes to, of the worker's operation and key
       does : Verdict (row .act) (step .worker) →
-          Does (holds now) (holds (suc now)) (before .operation) (before .key) (step .worker .answer)
-          ⊎ ((before .operation ≡ contains) × (step .worker .answer ≡ answerNumber No) × (23 ≤ before .stage) × (Ahead (state now) (before .curr) (before .key) → ⊥))
-      does (goes-in it op answer) = let change = has-added workers nodes entries good now v step (row .act) next it in inl (adds op answer (change .0) (change .1))
-      does (goes-out it op answer) = let change = has-taken workers nodes entries good now v step (row .act) next it in inl (removes op answer (change .0) (change .1))
+          Does (has r now) (has r (suc now)) (before .operation) (before .key) (step .worker .answer)
+          ⊎ ((before .operation ≡ contains) × (step .worker .answer ≡ answerNumber No) × (23 ≤ before .stage) × (Ahead (state r now) (before .curr) (before .key) → ⊥))
+      does (goes-in it op answer) = let change = has-added r now v step (row .act) next it in inl (adds op answer (change .0) (change .1))
+      does (goes-out it op answer) = let change = has-taken r now v step (row .act) next it in inl (removes op answer (change .0) (change .1))
       does (present it inside (inl is)) =
-          inl (adds-not (is .0) (is .1) (in-present workers nodes entries good now (before .key) inside) (has-kept workers nodes entries good now v step (row .act) next it))
+          inl (adds-not (is .0) (is .1) (in-present r now (before .key) inside) (has-kept r now v step (row .act) next it))
       does (present it inside (inr is)) =
-          inl (finds (is .0) (is .1) (in-present workers nodes entries good now (before .key) inside) (has-kept workers nodes entries good now v step (row .act) next it))
+          inl (finds (is .0) (is .1) (in-present r now (before .key) inside) (has-kept r now v step (row .act) next it))
       does (missing it out (inl is)) =
-          inl (is-full (is .0) (is .1) (absent-of workers nodes entries good now (before .key) out) (has-kept workers nodes entries good now v step (row .act) next it))
+          inl (is-full (is .0) (is .1) (absent-of r now (before .key) out) (has-kept r now v step (row .act) next it))
       does (missing it out (inr is)) =
-          inl (removes-not (is .0) (is .1) (absent-of workers nodes entries good now (before .key) out) (has-kept workers nodes entries good now v step (row .act) next it))
+          inl (removes-not (is .0) (is .1) (absent-of r now (before .key) out) (has-kept r now v step (row .act) next it))
       does (late it op answer stage out) = inr (op, answer, stage, out)
 
-      settled-now : Open now → (22 ≤ before .stage → Since begin now key ⊎ Ahead (state now) (spot before) key) → Verdict (row .act) (step .worker) → Settled now
+      settled-now : Open now → (22 ≤ before .stage → Since begin now key ⊎ Ahead (state r now) (spot before) key) → Verdict (row .act) (step .worker) → Settled now
       settled-now o look verdict =
           ⊎-elim
-          (λ it. acts (rw after (subst (λ k. Does (holds now) (holds (suc now)) operation k (step .worker .answer)) (o .same-key)
-          (subst (λ op. Does (holds now) (holds (suc now)) op (before .key) (step .worker .answer)) (o .same-operation) it))))
+          (λ it. acts (rw after (subst (λ k. Does (has r now) (has r (suc now)) operation k (step .worker .answer)) (o .same-key)
+          (subst (λ op. Does (has r now) (has r (suc now)) op (before .key) (step .worker .answer)) (o .same-operation) it))))
           (λ it.
           looks-up (sym (o .same-operation) ∙ it .0) (rw after (it .1))
           (⊎-elim longer
@@ -254,8 +244,8 @@ module _ (workers nodes : ℕ) (entries : List Entry) (good : goodCounts workers
           (does verdict)
 
       -- the turn decides the answer of a call that runs
-      pub decided-now : Open now → ((time : ℕ) → begin < time → time ≤ now → decidesAt workers nodes entries v time ≡ false) →
-          (22 ≤ before .stage → Since begin now key ⊎ Ahead (state now) (spot before) key) → Verdict (row .act) (step .worker) →
+      pub decided-now : Open now → ((time : ℕ) → begin < time → time ≤ now → decisive r v time ≡ false) →
+          (22 ≤ before .stage → Since begin now key ⊎ Ahead (state r now) (spot before) key) → Verdict (row .act) (step .worker) →
           decides (before .stage) (step .worker .answer) ≡ true → Decided now
       decided-now o none look verdict settled =
           record { begun = o .begun; decided = decides-now settled; undecided = none; settled = settled-now o look verdict }
@@ -277,68 +267,68 @@ module _ (workers nodes : ℕ) (entries : List Entry) (good : goodCounts workers
 
     -- the call goes on from a time to the next
     phase-next : (now : ℕ) → Phase now → Phase (suc now)
-    phase-next now phase = go (happens workers nodes entries good now)
+    phase-next now phase = go (happens r now)
       where
         -- a worker that is idle has finished the call
-        idle-kept : Phase now → state now .worker v .stage ≡ 0 → Phase (suc now)
+        idle-kept : Phase now → state r now .worker v .stage ≡ 0 → Phase (suc now)
         idle-kept (runs o undecided none look) idle = absurd (o .busy idle)
         idle-kept (closes o decided time past it) idle = absurd (o .busy idle)
         idle-kept (finished time finish past earlier it done rest none) idle = finished time finish past (omega arith) it done rest none
 
-        by-start : eventAt workers nodes entries (suc now) ≡ callStarted → state now .worker (entryFrom workers nodes entries now .worker) .stage ≡ 0 →
-            state (suc now) ≡ stepped (state now) (entryFrom workers nodes entries now .worker)
-            (startStep (entryFrom workers nodes entries now .act) (entryFrom workers nodes entries now .key)) →
-            (entryFrom workers nodes entries now .worker ≡ v) ⊎ (entryFrom workers nodes entries now .worker ≢ v) → Phase (suc now)
-        by-start event idle next (inl own) = idle-kept phase (subst (λ w. state now .worker w .stage ≡ 0) own idle)
+        by-start : outcome r now ≡ callStarted → state r now .worker (entry r now .worker) .stage ≡ 0 →
+            state r (suc now) ≡ stepped (state r now) (entry r now .worker)
+            (startStep (entry r now .act) (entry r now .key)) →
+            (entry r now .worker ≡ v) ⊎ (entry r now .worker ≢ v) → Phase (suc now)
+        by-start event idle next (inl own) = idle-kept phase (subst (λ w. state r now .worker w .stage ≡ 0) own idle)
         by-start event idle next (inr other) =
             stands-by now (not-decided v now (inr other)) (not-finished v now (inr other))
-            (ap (λ (s : State). s .worker v) next ∙ rw (ne-eqb v (entryFrom workers nodes entries now .worker) (λ e. other (sym e)))) phase
+            (ap (λ (s : State). s .worker v) next ∙ rw (ne-eqb v (entry r now .worker) (λ e. other (sym e)))) phase
 
-        by-turn : (step : Step) → eventAt workers nodes entries (suc now) ≡ turnReported (step .report) →
-            Row nodes (state now) (entryFrom workers nodes entries now .worker) step →
-            state (suc now) ≡ stepped (state now) (entryFrom workers nodes entries now .worker) step →
-            (entryFrom workers nodes entries now .worker ≡ v) ⊎ (entryFrom workers nodes entries now .worker ≢ v) → Phase (suc now)
+        by-turn : (step : Step) → outcome r now ≡ turnReported (step .report) →
+            Row (r .nodes) (state r now) (entry r now .worker) step →
+            state r (suc now) ≡ stepped (state r now) (entry r now .worker) step →
+            (entry r now .worker ≡ v) ⊎ (entry r now .worker ≢ v) → Phase (suc now)
         by-turn step event row next (inl own) =
-            let mine = subst (λ w. Row nodes (state now) w step) own row in
-            own-turn now step event own mine (subst (λ w. state (suc now) ≡ stepped (state now) w step) own next) phase (mine .course)
+            let mine = subst (λ w. Row (r .nodes) (state r now) w step) own row in
+            own-turn now step event own mine (subst (λ w. state r (suc now) ≡ stepped (state r now) w step) own next) phase (mine .course)
         by-turn step event row next (inr other) =
             stands-by now (not-decided v now (inr other)) (not-finished v now (inr other))
-            (ap (λ (s : State). s .worker v) next ∙ others-after (always workers nodes entries good now) _ (row .act) (row .placed) v (λ e. other (sym e))) phase
+            (ap (λ (s : State). s .worker v) next ∙ others-after (always r now) _ (row .act) (row .placed) v (λ e. other (sym e))) phase
 
-        go : Happens workers nodes entries now → Phase (suc now)
+        go : Happens r now → Phase (suc now)
         go (nothing unstarted unreported unfinished same) =
             stands-by now (not-decided v now (inl unreported)) (not-finished v now (inl unfinished)) (ap (λ arena. decode arena .worker v) same) phase
-        go (start event idle call there next) = by-start event idle next (same? (entryFrom workers nodes entries now .worker) v)
-        go (turn step event row idle next) = by-turn step event row next (same? (entryFrom workers nodes entries now .worker) v)
+        go (start event idle call there next) = by-start event idle next (same? (entry r now .worker) v)
+        go (turn step event row idle next) = by-turn step event row next (same? (entry r now .worker) v)
 
   -- the call that an entry starts
-  module _ (time : ℕ) (known : entryFrom workers nodes entries time .worker < workers)
-      (next : state (suc time) ≡ stepped (state time) (entryFrom workers nodes entries time .worker)
-      (startStep (entryFrom workers nodes entries time .act) (entryFrom workers nodes entries time .key))) where
+  module _ (time : ℕ) (known : entry r time .worker < r .workers)
+      (next : state r (suc time) ≡ stepped (state r time) (entry r time .worker)
+      (startStep (entry r time .act) (entry r time .key))) where
     abbrev v : ℕ
-    v = entryFrom workers nodes entries time .worker
+    v = entry r time .worker
 
     abbrev operation : ℕ
-    operation = entryFrom workers nodes entries time .act
+    operation = entry r time .act
 
     abbrev key : ℕ
-    key = entryFrom workers nodes entries time .key
+    key = entry r time .key
 
-    started : state (suc time) .worker v ≡ startedWorker operation key
+    started : state r (suc time) .worker v ≡ startedWorker operation key
     started = ap (λ (s : State). s .worker v) next ∙ rw (eq-eqb v v refl)
 
     -- a contains begins at Head: its key is absent now, or ahead
-    first-look : 22 ≤ state (suc time) .worker v .stage → Since (suc time) (suc time) key ⊎ Ahead (state (suc time)) (spot (state (suc time) .worker v)) key
+    first-look : 22 ≤ state r (suc time) .worker v .stage → Since (suc time) (suc time) key ⊎ Ahead (state r (suc time)) (spot (state r (suc time) .worker v)) key
     first-look looks = go (eqb operation contains) refl (rw started at looks)
       where
-        from-head : Since (suc time) (suc time) key ⊎ Ahead (state (suc time)) 0 key
+        from-head : Since (suc time) (suc time) key ⊎ Ahead (state r (suc time)) 0 key
         from-head =
             ⊎-elim (λ absent. inl (record { time = suc time; begun = omega arith; past = omega arith; absent = absent }))
-            (λ there. let inside = present-in workers nodes entries good (suc time) key there in inr (record { inside = inside; run = inside .chain }))
-            (dichotomy (holds (suc time) key))
+            (λ there. let inside = present-in r (suc time) key there in inr (record { inside = inside; run = inside .chain }))
+            (dichotomy (has r (suc time) key))
 
         go : (asks : Bool) → eqb operation contains ≡ asks → 22 ≤ cond asks 22 1 →
-            Since (suc time) (suc time) key ⊎ Ahead (state (suc time)) (spot (state (suc time) .worker v)) key
+            Since (suc time) (suc time) key ⊎ Ahead (state r (suc time)) (spot (state r (suc time) .worker v)) key
         go true e looks = rw (started, e) from-head
         go false e looks = absurd (omega arith)
 

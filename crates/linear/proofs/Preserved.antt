@@ -1,16 +1,14 @@
 -- Every start and every turn keeps the invariant.
-use Prim.Native.Nat.{ℕ, suc, _≤_, _<_}
-use mathlib.Core.Path.{_≡_, refl, sym, subst}
+use Prim.Native.Nat.{ℕ, suc, _<_}
+use mathlib.Core.Path.{_≡_, refl}
 use mathlib.Core.Logic.{_⊎_, inl, inr, _≢_}
 use mathlib.Core.Bool.{Bool, true, false, cond, and-eq-true-iff}
 use native.Mathlib.Omega.{arith}
-use lib.ListN.{getD}
 use lib.Dec.{eqb, leb}
-use borrow.Author.Tests.{eqb-true, eqb-false, leb-true, le-leb}
+use borrow.Author.Tests.{eqb-false, leb-true, le-leb}
 use Rattle.worker.specs.Worker.{add, remove, contains, within, isKey, isCall, newWorker, startedWorker}
 use Rattle.worker.specs.Stages.{reports, stageTable, stepOf}
 use Rattle.worker.specs.Turn.{belongs}
-use Rattle.worker.specs.declared.Worker.{Worker}
 use Rattle.worker.specs.declared.report.Free.{Free}
 use Rattle.worker.specs.declared.report.Free.the-variants as free
 use Rattle.worker.specs.declared.report.Report.the-variants.{Idle}
@@ -22,7 +20,7 @@ use Rattle.linear.proofs.Reach.{same?}
 use Rattle.linear.proofs.State.{State, stepped, startStep, seenIn, turnStep}
 use Rattle.linear.proofs.Promises.{Live, promises, Standing}
 use Rattle.linear.proofs.Invariant.{Inv}
-use Rattle.linear.proofs.Effects.{Known, far, Act, quiet}
+use Rattle.linear.proofs.Effects.{far, Act, quiet}
 use Rattle.linear.proofs.After.{Places, own-after, view-after, shape-after, stands-after}
 use Rattle.linear.proofs.Stable.{standing-kept}
 use Rattle.linear.proofs.Rows.{Row, FreeFound, steps, row-0, row-1, row-2, row-3, row-4, row-5, row-6, row-7, row-8, row-9, row-10, row-11, row-12, row-13, row-14, row-15, row-16, row-17, row-18, row-19, row-20, row-21, row-22, row-23, row-24, row-25}

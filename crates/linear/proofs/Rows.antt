@@ -1,14 +1,14 @@
 -- The stage table, row by row: what each turn needs and does, for the nodes, for the worker's own promise, and for its call.
 use Prim.Native.Nat.{ℕ, suc, _≤_, _<_}
-use mathlib.Core.Path.{_≡_, refl, sym, ap, subst, _∙_}
-use mathlib.Core.Logic.{_⊎_, inl, inr, ⊎-elim, _≢_}
+use mathlib.Core.Path.{_≡_, refl, sym, subst, _∙_}
+use mathlib.Core.Logic.{_⊎_, inl, inr, _≢_}
 use mathlib.Core.Bool.{Bool, true, false, cond, _&&_, and-eq-true-iff}
 use native.Mathlib.Omega.{arith}
 use lib.Dec.{eqb, leb, ltb}
-use borrow.Author.Tests.{eqb-true, eqb-false, leb-true, le-leb, ltb-true, ltb-false, eq-eqb, ne-eqb}
+use borrow.Author.Tests.{eqb-true, eqb-false, leb-true, le-leb, ltb-true, ltb-false, eq-eqb}
 use Rattle.worker.specs.Worker.{add, remove, contains, isKey, within, idleWorker}
 use Rattle.worker.specs.Report.{answerNumber, numberedAnswer}
-use Rattle.worker.specs.Stages.{reports, changed, goes, to, unlocks, denies, takes, withPred, withCurr, withSpare, withStage, withAnswer, stageTable}
+use Rattle.worker.specs.Stages.{reports, changed, goes, to, unlocks, denies, takes, withPred, withCurr, withSpare, withStage, withAnswer}
 use Rattle.worker.specs.Turn.{belongs}
 use Rattle.worker.specs.declared.Worker.{Worker}
 use Rattle.worker.specs.declared.report.Answer.the-variants.{Yes, No, Full}
@@ -18,17 +18,15 @@ use Rattle.worker.specs.declared.report.Free.{Free}
 use Rattle.worker.specs.declared.report.Free.the-variants as free
 use Rattle.worker.specs.declared.report.Step.{Step}
 use Rattle.worker.specs.declared.report.Effect.{Effect}
-use Rattle.worker.specs.declared.report.Effect.the-variants.{Nothing, SetOwner, SetNext, SetMark, Fill}
-use Rattle.worker.proofs.Tables.{AllFrom, end, _then_, row-at}
-use Rattle.lazy.specs.Turn.{seenOf}
+use Rattle.worker.specs.declared.report.Effect.the-variants.{SetOwner, SetNext, SetMark, Fill}
 use Rattle.linear.specs.Entries.{isFinished, turnReported}
 use Rattle.linear.specs.History.{decides}
 use Rattle.linear.proofs.Reach.{here}
-use Rattle.linear.proofs.State.{State, Shape, shapeOf, stepped, seenIn}
+use Rattle.linear.proofs.State.{State, shapeOf, stepped}
 use Rattle.linear.proofs.Promises.{Holds, in-pred, in-curr, in-spare, Live, Private, BothHeld, CurrHeld, Neighbours, Gap, promises, promiseAt, sane, Standing}
 use Rattle.linear.proofs.Invariant.{In, Ahead, Inv, Range, key-range, promised, sane-at, live-held, live-next, live-chain, live-tail, on-chain, not-head, not-tail, absent, nothing-ahead, ahead-next}
 use Rattle.linear.proofs.Effects.{Known, old, top, far, link, Act, quiet, owns, fills, links, marks, unlinks, Fills, at-node, off-node, written, two-nodes}
-use Rattle.linear.proofs.Stable.{found-kept, pred-held-kept, curr-held-kept, both-held-kept, gap-kept}
+use Rattle.linear.proofs.Stable.{found-kept, pred-held-kept, both-held-kept, gap-kept}
 use Rattle.linear.proofs.After.{Places, live-after, others-after}
 use Rattle.linear.proofs.Changes.{Keeps, Adds, Takes}
 

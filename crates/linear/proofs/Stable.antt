@@ -6,7 +6,7 @@ use native.Mathlib.Omega.{arith}
 use Rattle.worker.proofs.Tables.{AllFrom, end, _then_, row-at}
 use Rattle.linear.proofs.Reach.{same?}
 use Rattle.linear.proofs.State.{State, Shape, shapeOf}
-use Rattle.linear.proofs.Promises.{Holds, in-pred, in-curr, in-spare, Live, Private, Searching, Passing, Found, PredHeld, CurrHeld, BothHeld, PredStays, BothStay, Neighbours, Gap, Filled, Hit, Removed, Bypassed, Looking, LookingBelow, LookingAt, Promise, promises, promiseAt, Standing}
+use Rattle.linear.proofs.Promises.{Holds, in-pred, in-curr, in-spare, Live, Private, Searching, Passing, Found, PredHeld, CurrHeld, BothHeld, PredStays, BothStay, Neighbours, Gap, Filled, Hit, Removed, Bypassed, Looking, LookingBelow, LookingAt, Promise, promises, Standing}
 use Rattle.linear.proofs.Invariant.{live-held}
 use Rattle.linear.proofs.Effects.{Known, old, top, far, link}
 use Rattle.linear.proofs.After.{View}

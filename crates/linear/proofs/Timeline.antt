@@ -1,15 +1,13 @@
 -- The states of a list of entries, one for each time, and what happens between two of them.
-use Prim.Native.Nat.{ℕ, zero, suc, _-_, _≤_, _<_}
-use mathlib.Core.Path.{_≡_, refl, sym, ap, subst, _∙_}
-use mathlib.Core.Logic.{_⊎_, inl, inr, ⊎-elim, _≢_}
+use Prim.Native.Nat.{ℕ, zero, suc, _≤_, _<_}
+use mathlib.Core.Path.{_≡_, sym, ap, subst, _∙_}
 use mathlib.Core.List.{List}
-use mathlib.Core.Bool.{Bool, true, false, cond}
+use mathlib.Core.Bool.{Bool, true, false}
 use native.Mathlib.Omega.{arith}
 use native.Mathlib.Numerals.{sub-one}
-use lib.Dec.{ltb}
+use lib.ListN.{length}
 use borrow.Author.Tests.{lt-ltb, le-ltb}
 use Rattle.worker.specs.Worker.{isCall, idleWorker}
-use Rattle.worker.specs.declared.Worker.{Worker}
 use Rattle.worker.specs.declared.report.Step.{Step}
 use Rattle.worker.proofs.TurnLaws.{step-row}
 use Rattle.arena.specs.Layout.{goodCounts}
@@ -17,93 +15,123 @@ use Rattle.arena.specs.Records.{workerAt}
 use Rattle.arena.proofs.Bounds.{counts}
 use Rattle.linear.specs.Lists.{member}
 use Rattle.linear.specs.Sets.{setOf}
-use Rattle.linear.specs.Entries.{Entry, Event, callStarted, turnReported, entryRefused, isTurn, isStarted, isReported, isFinished, eventOf, after}
-use Rattle.linear.specs.History.{entryAt, arenaAt, eventAt}
+use Rattle.linear.specs.Entries.{Entry, Event, callStarted, turnReported, entryRefused, isStarted, isReported, isFinished, eventOf}
+use Rattle.linear.specs.History.{Call, entryAt, arenaAt, eventAt, decidesAt, finishesAt, startsAt, callAt, calls}
+use Rattle.linear.specs.Order.{inOrder}
 use Rattle.linear.proofs.State.{State, decode, stepped, startStep, turnStep}
 use Rattle.linear.proofs.Bridge.{Sound, Entered, refuses, starts, turns, entered, after-sound}
-use Rattle.linear.proofs.FreshState.{FreshState, fresh-sound, fresh-state}
-use Rattle.linear.proofs.Promises.{Live}
-use Rattle.linear.proofs.Invariant.{In, Ahead, Inv}
+use Rattle.linear.proofs.FreshState.{fresh-sound, fresh-state}
+use Rattle.linear.proofs.Invariant.{Inv}
 use Rattle.linear.proofs.Rows.{Row}
-use Rattle.linear.proofs.Preserved.{row-inv, turn-row, start-act, start-inv}
+use Rattle.linear.proofs.Preserved.{row-inv, turn-row, start-inv}
 use Rattle.linear.proofs.Passes.{passes, stage-below}
 use Rattle.linear.proofs.FreeNodes.{free-not-live}
 use Rattle.linear.proofs.FreshInvariant.{fresh-inv}
-use Rattle.linear.proofs.Members.{set-in}
-use Rattle.linear.proofs.Changes.{Keeps, keeps-set, ahead-after}
 
-module _ (workers nodes : ℕ) (entries : List Entry) where
-  -- the state at a time
-  abbrev pub stateAt : ℕ → State
-  stateAt time = decode (arenaAt workers nodes entries time)
+-- a list of entries from a fresh arena
+pub record Schedule : Type 0 where
+  pub workers : ℕ
+  pub nodes : ℕ
+  pub entries : List Entry
+  pub good : goodCounts workers nodes ≡ true
 
-  -- whether a key is in the set at a time
+module _ (r : Schedule) where
+  -- of such a list: the arena and the state at a time, whether a key is in the set, the last time
+  abbrev pub arena : ℕ → List ℕ
+  arena time = arenaAt (r .workers) (r .nodes) (r .entries) time
+
+  abbrev pub state : ℕ → State
+  state time = decode (arena time)
+
   abbrev pub has : ℕ → ℕ → Bool
-  has time key = member key (setOf (arenaAt workers nodes entries time))
+  has time key = member key (setOf (arena time))
 
-  -- the entry that leads from a time to the next
-  abbrev pub entryFrom : ℕ → Entry
-  entryFrom time = entryAt workers nodes entries (suc time)
+  abbrev pub last : ℕ
+  last = length (r .entries)
+
+  -- the entry that leads from a time to the next, and what it comes to
+  abbrev pub entry : ℕ → Entry
+  entry time = entryAt (r .workers) (r .nodes) (r .entries) (suc time)
+
+  abbrev pub outcome : ℕ → Event
+  outcome time = eventAt (r .workers) (r .nodes) (r .entries) (suc time)
+
+  -- the turns of a worker that decide, and that finish; the starts; the calls, and those in order
+  abbrev pub decisive : ℕ → ℕ → Bool
+  decisive v time = decidesAt (r .workers) (r .nodes) (r .entries) v time
+
+  abbrev pub finishing : ℕ → ℕ → Bool
+  finishing v time = finishesAt (r .workers) (r .nodes) (r .entries) v time
+
+  abbrev pub starts-at : ℕ → Bool
+  starts-at time = startsAt (r .workers) (r .nodes) (r .entries) time
+
+  abbrev pub call-at : ℕ → Call
+  call-at time = callAt (r .workers) (r .nodes) (r .entries) time
+
+  abbrev pub calls-of : List Call
+  calls-of = calls (r .workers) (r .nodes) (r .entries)
+
+  abbrev pub in-order-of : List Call
+  in-order-of = inOrder (r .workers) (r .nodes) (r .entries)
 
   -- what happens between a time and the next: nothing, a start on an idle worker, or a turn
   pub data Happens (time : ℕ) : Type 0 where
-    nothing : isStarted (eventAt workers nodes entries (suc time)) ≡ false → isReported (eventAt workers nodes entries (suc time)) ≡ false →
-        isFinished (eventAt workers nodes entries (suc time)) ≡ false → arenaAt workers nodes entries (suc time) ≡ arenaAt workers nodes entries time → Happens time
-    start : eventAt workers nodes entries (suc time) ≡ callStarted → stateAt time .worker (entryFrom time .worker) .stage ≡ 0 →
-        isCall (entryFrom time .act) (entryFrom time .key) ≡ true → entryFrom time .worker < workers →
-        stateAt (suc time) ≡ stepped (stateAt time) (entryFrom time .worker) (startStep (entryFrom time .act) (entryFrom time .key)) → Happens time
-    turn : (step : Step) → eventAt workers nodes entries (suc time) ≡ turnReported (step .report) → Row nodes (stateAt time) (entryFrom time .worker) step →
-        (stateAt time .worker (entryFrom time .worker) .stage ≡ 0 → step .worker ≡ stateAt time .worker (entryFrom time .worker)) →
-        stateAt (suc time) ≡ stepped (stateAt time) (entryFrom time .worker) step → Happens time
+    nothing : isStarted (outcome time) ≡ false → isReported (outcome time) ≡ false → isFinished (outcome time) ≡ false →
+        arena (suc time) ≡ arena time → Happens time
+    start : outcome time ≡ callStarted → state time .worker (entry time .worker) .stage ≡ 0 →
+        isCall (entry time .act) (entry time .key) ≡ true → entry time .worker < r .workers →
+        state (suc time) ≡ stepped (state time) (entry time .worker) (startStep (entry time .act) (entry time .key)) → Happens time
+    turn : (step : Step) → outcome time ≡ turnReported (step .report) → Row (r .nodes) (state time) (entry time .worker) step →
+        (state time .worker (entry time .worker) .stage ≡ 0 → step .worker ≡ state time .worker (entry time .worker)) →
+        state (suc time) ≡ stepped (state time) (entry time .worker) step → Happens time
 
-  module _ (good : goodCounts workers nodes ≡ true) where
-    -- the header stays in order
-    pub sound : (time : ℕ) → Sound workers nodes (arenaAt workers nodes entries time)
-    unfolding arenaAt
-    sound zero = fresh-sound workers nodes good
-    sound (suc time) = after-sound (sound time) (entryFrom time)
+  -- the header stays in order
+  pub sound : (time : ℕ) → Sound (r .workers) (r .nodes) (arena time)
+  unfolding arenaAt
+  sound zero = fresh-sound (r .workers) (r .nodes) (r .good)
+  sound (suc time) = after-sound (sound time) (entry time)
 
-    -- past the last worker there are idle records
-    idle-past : (time v : ℕ) → workers ≤ v → stateAt time .worker v ≡ idleWorker
-    idle-past time v out = rw (sound time .workers-are, le-ltb v workers out)
+  -- past the last worker there are idle records
+  idle-past : (time v : ℕ) → r .workers ≤ v → state time .worker v ≡ idleWorker
+  idle-past time v out = rw (sound time .workers-are, le-ltb v (r .workers) out)
 
-    -- a worker that there is has its record in the arena
-    pub own-worker : (time v : ℕ) → v < workers → stateAt time .worker v ≡ workerAt (arenaAt workers nodes entries time) v
-    own-worker time v known = rw (sound time .workers-are, lt-ltb v workers known)
+  -- a worker that there is has its record in the arena
+  pub own-worker : (time v : ℕ) → v < r .workers → state time .worker v ≡ workerAt (arena time) v
+  own-worker time v known = rw (sound time .workers-are, lt-ltb v (r .workers) known)
 
-    event-from : (time : ℕ) → eventAt workers nodes entries (suc time) ≡ eventOf (arenaAt workers nodes entries time) (entryFrom time)
-    unfolding eventAt
-    event-from time = rw (sub-one)
+  outcome-is : (time : ℕ) → outcome time ≡ eventOf (arena time) (entry time)
+  unfolding eventAt
+  outcome-is time = rw sub-one
 
-    entered-at : (time : ℕ) → Inv nodes (stateAt time) → Entered workers nodes (arenaAt workers nodes entries time) (entryFrom time)
-    entered-at time inv = entered (sound time) (λ w known. passes inv workers w) (entryFrom time)
+  -- under the invariant an entry is refused, a start, or a turn by its row of the table
+  pub entered-at : (time : ℕ) (x : Entry) → Inv (r .nodes) (state time) → Entered (r .workers) (r .nodes) (arena time) x
+  entered-at time x inv = entered (sound time) (λ w known. passes inv (r .workers) w) x
 
-    row-at-time : (time w : ℕ) → Inv nodes (stateAt time) → Row nodes (stateAt time) w (turnStep workers nodes (stateAt time) w)
-    row-at-time time w inv =
-        turn-row inv w workers (λ n e. free-not-live inv workers (idle-past time) e) (stage-below inv w)
+  happening : (time : ℕ) → Inv (r .nodes) (state time) → Entered (r .workers) (r .nodes) (arena time) (entry time) → Happens time
+  unfolding arenaAt
+  happening time inv (refuses number event same known) =
+      let is : outcome time ≡ entryRefused number = outcome-is time ∙ event in nothing (ap isStarted is) (ap isReported is) (ap isFinished is) same
+  happening time inv (starts event turning known idle call next) = start (outcome-is time ∙ event) idle call known next
+  happening time inv (turns event turning known next) =
+      let w = entry time .worker in
+      turn (turnStep (r .workers) (r .nodes) (state time) w) (outcome-is time ∙ event)
+      (turn-row inv w (r .workers) (λ n e. free-not-live inv (r .workers) (idle-past time) e) (stage-below inv w))
+      (λ idle. ap (λ (step : Step). step .worker) (step-row (state time .worker w) _ _ idle)) next
 
-    happening : (time : ℕ) → Inv nodes (stateAt time) → Entered workers nodes (arenaAt workers nodes entries time) (entryFrom time) → Happens time
-    unfolding arenaAt
-    happening time inv (refuses number event same known) =
-        let is : eventAt workers nodes entries (suc time) ≡ entryRefused number = event-from time ∙ event in
-        nothing (ap isStarted is) (ap isReported is) (ap isFinished is) same
-    happening time inv (starts event turning known idle call next) = start (event-from time ∙ event) idle call known next
-    happening time inv (turns event turning known next) =
-        turn (turnStep workers nodes (stateAt time) (entryFrom time .worker)) (event-from time ∙ event)
-        (row-at-time time (entryFrom time .worker) inv)
-        (λ idle. ap (λ (step : Step). step .worker) (step-row (stateAt time .worker (entryFrom time .worker)) _ _ idle)) next
+  inv-next : (time : ℕ) → Inv (r .nodes) (state time) → Happens time → Inv (r .nodes) (state (suc time))
+  inv-next time inv (nothing unstarted unreported unfinished same) = subst (λ words. Inv (r .nodes) (decode words)) (sym same) inv
+  inv-next time inv (start event idle call known next) =
+      subst (Inv (r .nodes)) (sym next) (start-inv inv (entry time .worker) (entry time .act) (entry time .key) idle call)
+  inv-next time inv (turn step event row idle next) = subst (Inv (r .nodes)) (sym next) (row-inv inv (entry time .worker) row)
 
-    inv-next : (time : ℕ) → Inv nodes (stateAt time) → Happens time → Inv nodes (stateAt (suc time))
-    inv-next time inv (nothing s r f same) = subst (λ arena. Inv nodes (decode arena)) (sym same) inv
-    inv-next time inv (start event idle call known next) =
-        subst (Inv nodes) (sym next) (start-inv inv (entryFrom time .worker) (entryFrom time .act) (entryFrom time .key) idle call)
-    inv-next time inv (turn step event row idle next) = subst (Inv nodes) (sym next) (row-inv inv (entryFrom time .worker) row)
+  -- the invariant holds at every time
+  pub always : (time : ℕ) → Inv (r .nodes) (state time)
+  unfolding arenaAt
+  always zero =
+      let few = counts (r .workers) (r .nodes) (r .good) in
+      fresh-inv (omega (arith, few)) (omega (arith, few)) (fresh-state (r .workers) (r .nodes) (r .good))
+  always (suc time) = inv-next time (always time) (happening time (always time) (entered-at time (entry time) (always time)))
 
-    -- the invariant holds at every time
-    pub always : (time : ℕ) → Inv nodes (stateAt time)
-    unfolding arenaAt
-    always zero = let c = counts workers nodes good in fresh-inv (omega arith) (omega arith) (fresh-state workers nodes good)
-    always (suc time) = inv-next time (always time) (happening time (always time) (entered-at time (always time)))
-
-    pub happens : (time : ℕ) → Happens time
-    happens time = happening time (always time) (entered-at time (always time))
+  pub happens : (time : ℕ) → Happens time
+  happens time = happening time (always time) (entered-at time (entry time) (always time))
