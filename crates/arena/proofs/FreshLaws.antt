@@ -21,7 +21,7 @@ use Rattle.arena.proofs.Judged.{none-holds}
 use Rattle.arena.proofs.Runs.{sets-append, length-copies}
 
 -- the nodes begin where the workers end
-nodes-place : (workers nodes : ℕ) → length (headerWords layoutNumber workers nodes ++ freshWorkers workers) ≡ workerFrom workers
+pub nodes-place : (workers nodes : ℕ) → length (headerWords layoutNumber workers nodes ++ freshWorkers workers) ≡ workerFrom workers
 unfolding headerWords freshWorkers
 nodes-place workers nodes = simp (length-copies workers (workerWords idleWorker)) (omega arith)
 

@@ -8,11 +8,11 @@ use Rattle.worker.specs.declared.Worker.{Worker}
 use Rattle.worker.specs.declared.report.Step.{Step}
 use Rattle.worker.specs.declared.report.Effect.{Effect}
 use Rattle.arena.specs.Layout.{nodeKey, nodeNext}
-use Rattle.linear.proofs.Reach.{Reach, here, on, join, along, same?}
+use Rattle.linear.proofs.Reach.{here, along, same?}
 use Rattle.linear.proofs.State.{State, wordAfter, stepped}
-use Rattle.linear.proofs.Promises.{Holds, in-pred, in-curr, Root, head, tail, held, Live}
-use Rattle.linear.proofs.Invariant.{Stands, dead, chained, new, Nodes, Inv, live-held, live-next, live-chain, live-tail, live-in, not-tail, on-chain}
-use Rattle.linear.proofs.Effects.{Known, old, top, far, link, Act, quiet, owns, fills, links, marks, unlinks, Fills, at-node, off-node, written, inside-after, key-after, leads-after, rises-after, run-after, dead-after, touched-after, owner-after}
+use Rattle.linear.proofs.Promises.{Holds, in-curr, Root, head, tail, held, Live}
+use Rattle.linear.proofs.Invariant.{Stands, dead, chained, new, Nodes, Inv, live-held, live-next, live-chain, live-tail, live-in, not-tail}
+use Rattle.linear.proofs.Effects.{Known, old, top, far, link, Act, quiet, owns, fills, links, marks, unlinks, Fills, at-node, off-node, written, inside-after, key-after, leads-after, rises-after, run-after, dead-after, touched-after, owner-after, linked}
 
 -- what the worker holds after its step it held, or read, or has filled; and a node that it has filled is its new one at 15
 pub record Places (nodes : ℕ) (s : State) (w : ℕ) (step : Step) : Type 0 where
@@ -135,20 +135,6 @@ module _ {nodes : ℕ} {s : State} (inv : Inv nodes s) (w : ℕ) {step : Step} (
       rises n d (inl l) = rw (key-after inv w act l, key-after inv w act (onward n (inl l))) (rises-after inv w act l d)
       rises n d (inr f) = rw (key-after inv w act (onward n (inr f))) (filled-known (step .effect) act f .3)
 
-  -- the new node of worker w is linked in
-  linked : (e : Effect) → Act nodes s w e → s .worker w .stage ≡ 15 →
-      Reach (λ m. wordAfter e m nodeNext (s .next m)) 0 (s .worker w .spare)
-  linked e (quiet c) q = absurd (c q)
-  linked e (owns c o) q = absurd (c q)
-  linked e (marks c r p) q = absurd (c q)
-  linked e (fills c i free r p) q = absurd (c q)
-  linked e (links c r p) q =
-      let stays = p .gap .neighbours .stay .stays in
-      let chain = on-chain inv w (in-pred refl) (stays .held .held .found .searching .pred-in) (stays .unmarked) (λ h. p .not-pred) in
-      ⊎-elim (λ kept. join kept (on (here (at-node (s .worker w .pred) (s .worker w .pred) (s .worker w .spare) _ refl)))) (λ marked. absurd (marked (stays .unmarked)))
-      (run-after inv w (links c r p) (live-chain (here refl)) chain)
-  linked e (unlinks c r p) q = absurd (c q)
-
   pub stands-after : (n : ℕ) → Live nodes t n → Stands t n
   stands-after n live = by (live-after live)
     where
@@ -159,7 +145,7 @@ module _ {nodes : ℕ} {s : State} (inv : Inv nodes s) (w : ℕ) {step : Step} (
       go l (new v e q) = at-v (same? v w)
         where
           at-v : (v ≡ w) ⊎ (v ≢ w) → Stands t n
-          at-v (inl p) = chained (rw (q ∙ ap (λ u. s .worker u .spare) p) (linked (step .effect) act (ap (λ u. s .worker u .stage) (sym p) ∙ e)))
+          at-v (inl p) = chained (rw (q ∙ ap (λ u. s .worker u .spare) p) (linked inv w act (ap (λ u. s .worker u .stage) (sym p) ∙ e)))
           at-v (inr d) = new v (ap (λ (r : Worker). r .stage) (others-after v d) ∙ e) (q ∙ ap (λ (r : Worker). r .spare) (sym (others-after v d)))
 
       by : Live nodes s n ⊎ Fills (step .effect) n → Stands t n

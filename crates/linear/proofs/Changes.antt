@@ -5,12 +5,12 @@ use mathlib.Core.Logic.{_⊎_, inl, inr, ⊎-elim, ⊎-map, _≢_}
 use native.Mathlib.Omega.{arith}
 use Rattle.worker.specs.declared.report.Step.{Step}
 use Rattle.worker.specs.declared.report.Effect.{Effect}
-use Rattle.arena.specs.Layout.{nodeNext, nodeMark}
-use Rattle.linear.proofs.Reach.{Reach, here, on, join, same?}
+use Rattle.arena.specs.Layout.{nodeMark}
+use Rattle.linear.proofs.Reach.{Reach, here, same?}
 use Rattle.linear.proofs.State.{State, shapeOf, wordAfter, stepped}
 use Rattle.linear.proofs.Promises.{in-pred, in-curr, in-spare, Live, PredStays, Filled, Hit}
 use Rattle.linear.proofs.Invariant.{In, Ahead, Inv, Range, live-held, live-chain, not-head, not-tail, once, absent, on-chain}
-use Rattle.linear.proofs.Effects.{Act, quiet, owns, fills, links, marks, unlinks, at-node, off-node, key-after, run-after, chain-before, dead-after}
+use Rattle.linear.proofs.Effects.{Act, quiet, owns, fills, links, marks, unlinks, at-node, off-node, key-after, run-after, chain-before, dead-after, linked}
 
 -- the effects that keep the set, the one that adds to it, and the one that takes from it
 abbrev pub Keeps : {nodes : ℕ} {s : State} {w : ℕ} {e : Effect} → Act nodes s w e → Type 0
@@ -51,14 +51,13 @@ module _ {nodes : ℕ} {s : State} {w : ℕ} where
   not-linking (marks c r f) k = c
   not-linking (unlinks c r f) k = c
 
-  -- where a key is added, pred then leads to the new node
+  -- where a key is added, the worker is at 15
   linking : {e : Effect} (act : Act nodes s w e) → Adds act →
-      Filled nodes s w (s .worker w .key) (s .worker w .pred) (s .worker w .curr) (s .worker w .spare)
-      × (wordAfter e (s .worker w .pred) nodeNext (s .next (s .worker w .pred)) ≡ s .worker w .spare)
+      Filled nodes s w (s .worker w .key) (s .worker w .pred) (s .worker w .curr) (s .worker w .spare) × (s .worker w .stage ≡ 15)
   linking (quiet c) k = absurd k
   linking (owns c o) k = absurd k
   linking (fills c i free r f) k = absurd k
-  linking (links c r f) k = (f, at-node (s .worker w .pred) _ _ _ refl)
+  linking (links c r f) k = (f, c)
   linking (marks c r f) k = absurd k
   linking (unlinks c r f) k = absurd k
 
@@ -162,7 +161,7 @@ module _ {nodes : ℕ} {s : State} (inv : Inv nodes s) (w : ℕ) (step : Step) (
       is-now =
           record {
             node = s .worker w .spare;
-            chain = join (run-kept (live-chain (here refl)) (stays .unmarked) chain) (on (here (linking act k .1)));
+            chain = linked inv w act (linking act k .1);
             not-head = new .alone .not-head;
             not-tail = new .alone .not-tail;
             unmarked = the-first (λ taken. taken .1 (inr k)) (mark-after act spare-live) ∙ new .has-mark;

@@ -9,10 +9,10 @@ use borrow.Author.Tests.{eq-eqb, ne-eqb}
 use Rattle.worker.specs.declared.report.Effect.{Effect}
 use Rattle.worker.specs.declared.report.Effect.the-variants.{Nothing, SetOwner, SetNext, SetMark, Fill}
 use Rattle.arena.specs.Layout.{nodeKey, nodeNext, nodeMark, nodeOwner}
-use Rattle.linear.proofs.Reach.{Reach, here, carry, same?, Skip, skip, skip-back}
+use Rattle.linear.proofs.Reach.{Reach, here, on, join, carry, same?, Skip, skip, skip-back}
 use Rattle.linear.proofs.State.{State, shapeOf, wordAfter}
 use Rattle.linear.proofs.Promises.{Holds, in-pred, in-curr, in-spare, held, Live, Searching, Found, Gap, Filled, Hit, Bypassed}
-use Rattle.linear.proofs.Invariant.{Inv, Range, live-held, live-next, live-chain, not-tail}
+use Rattle.linear.proofs.Invariant.{Inv, Range, live-held, live-next, live-chain, not-tail, on-chain}
 
 -- a word at node n, where node p was written
 pub at-node : (n p v old : ℕ) → n ≡ p → cond (eqb n p) v old ≡ v
@@ -203,3 +203,16 @@ module _ {nodes : ℕ} {s : State} (inv : Inv nodes s) (w : ℕ) where
   owner-after (fills c i free r f) {n} l = inl (off-node n _ _ (s .owner n) (λ e. free (rw e at l)))
   owner-after (links c r f) l = inl refl
   owner-after (unlinks c r f) l = inl refl
+
+  -- the new node of a worker at 15 is linked in, and the chain leads to it
+  pub linked : {e : Effect} → Act nodes s w e → s .worker w .stage ≡ 15 →
+      Reach (λ m. wordAfter e m nodeNext (s .next m)) 0 (s .worker w .spare)
+  linked (quiet c) at = absurd (c at)
+  linked (owns c o) at = absurd (c at)
+  linked (marks c r f) at = absurd (c at)
+  linked (fills c i free r f) at = absurd (c at)
+  linked (links c r f) at =
+      let stays = f .gap .neighbours .stay .stays in
+      let chain = on-chain inv w (in-pred refl) (stays .held .held .found .searching .pred-in) (stays .unmarked) (λ h. f .not-pred) in
+      join (skip-back (link-skip f) chain) (on (here (at-node (s .worker w .pred) (s .worker w .pred) (s .worker w .spare) _ refl)))
+  linked (unlinks c r f) at = absurd (c at)

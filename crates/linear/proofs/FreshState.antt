@@ -16,9 +16,8 @@ use Rattle.arena.specs.Header.{headerRefusals}
 use Rattle.arena.specs.Init.{freshWorkers, freshNodes, freshWords}
 use Rattle.arena.proofs.Bounds.{counts}
 use Rattle.arena.proofs.Judged.{none-holds}
-use Rattle.arena.proofs.Runs.{length-copies}
 use Rattle.arena.proofs.HeaderLaws.{Header}
-use Rattle.arena.proofs.FreshLaws.{fresh-header}
+use Rattle.arena.proofs.FreshLaws.{nodes-place, fresh-header}
 use Rattle.linear.proofs.State.{State, decode}
 use Rattle.linear.proofs.Words.{fieldIn, field-word, no-field}
 use Rattle.linear.proofs.Stepped.{header-of, record-words, known-record, no-record}
@@ -70,17 +69,12 @@ module _ (workers nodes : ℕ) (good : goodCounts workers nodes ≡ true) where
   abbrev before : List ℕ
   before = headerWords layoutNumber workers nodes ++ freshWorkers workers
 
-  -- the nodes begin where the workers end
-  before-long : length before ≡ workerFrom workers
-  unfolding headerWords freshWorkers
-  before-long = simp (length-copies workers (workerWords idleWorker)) (omega arith)
-
   -- a field of a node that there is stands among the fresh nodes
   node-field : (n f : ℕ) → n < nodes → f ≤ nodeOwner → fieldIn fresh n f ≡ word (freshNodes nodes) (slot (nodeWidth layoutNumber) n f)
   unfolding freshWords headerWords nodeFrom
   node-field n f there room =
       let at = slot (nodeWidth layoutNumber) n f in
-      let place : workerFrom workers + at ≡ length before + at = omega (arith, before-long) in
+      let place : workerFrom workers + at ≡ length before + at = omega (arith, nodes-place workers nodes) in
       field-word fresh order n f there room ∙ ap (word fresh) place ∙ getD-append-add before (freshNodes nodes) at 0
 
   -- from node 2 on a field is 0 where an unused node's is
@@ -114,7 +108,7 @@ module _ (workers nodes : ℕ) (good : goodCounts workers nodes ≡ true) where
           let at = slot workerWidth v k in
           let header = headerWords layoutNumber workers nodes in
           let place : workerFrom v + k ≡ length header + at = omega arith in
-          List·getD-append before (freshNodes nodes) 0 (workerFrom v + k) (omega (arith, before-long))
+          List·getD-append before (freshNodes nodes) 0 (workerFrom v + k) (omega (arith, nodes-place workers nodes))
           ∙ ap (word before) place
           ∙ getD-append-add header (freshWorkers workers) at 0
           ∙ copies-at (workerWords idleWorker) workers v k there inside

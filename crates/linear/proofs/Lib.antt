@@ -15,7 +15,10 @@ pub mod Effects
 pub mod After
 pub mod Stable
 pub mod Changes
-pub mod Rows
+pub mod Course
+pub mod TurnKinds
+pub mod SearchRows
+pub mod AnswerRows
 pub mod Preserved
 pub mod Passes
 pub mod FreeNodes

@@ -22,7 +22,7 @@ use Rattle.linear.proofs.Reach.{here}
 use Rattle.linear.proofs.State.{State, decode, stepped}
 use Rattle.linear.proofs.FreshState.{fresh-state}
 use Rattle.linear.proofs.After.{own-after, others-after}
-use Rattle.linear.proofs.Rows.{Row, Verdict, goes-in, goes-out, present, missing, late as late-verdict, Course, rests, goes-on, settles, ends}
+use Rattle.linear.proofs.Course.{Row, Verdict, goes-in, goes-out, present, missing, late as late-verdict, Course, rests, goes-on, settles, ends}
 use Rattle.linear.proofs.Timeline.{has, Happens, nothing, start, turn, always, happens, Schedule, arena, state, last, entry, outcome, starts-at, call-at, in-order-of}
 use Rattle.linear.proofs.Keys.{has-kept, has-started}
 use Rattle.linear.proofs.Phases.{Phase, runs, closes, finished, phase-at, decided-now}

@@ -1,7 +1,6 @@
 -- No worker's turn is refused under the invariant.
-use Prim.Native.Nat.{ℕ, suc, _<_}
+use Prim.Native.Nat.{ℕ, _<_}
 use mathlib.Core.Path.{_≡_, refl}
-use mathlib.Core.List.{List, _∷_}
 use mathlib.Core.Bool.{Bool, true, false, cond, not, _&&_, _||_, and-eq-true-iff}
 use native.Mathlib.Omega.{arith}
 use native.Mathlib.Decide.{ℕ-discrete, decLt}
@@ -37,12 +36,6 @@ whole-record w e =
         let range = and-eq-true-iff (leb 19 (w .stage)) (leb (w .stage) 21) .0 at in
         rw (in-range 17 21 (w .stage) (omega (arith, leb-true 19 (w .stage) (range .0))) (leb-true (w .stage) 21 (range .1))) at given
 
--- `then`, where the proof of a row needs to know the row
-infixr 5 _also_
-_also_ : {P : ℕ → Promise → Type 0} {n : ℕ} {row : Promise} {rows : List Promise} → P n row → AllFrom P (suc n) rows →
-    AllFrom P n (row ∷ rows)
-this also rest = this then rest
-
 module _ {nodes : ℕ} {s : State} (inv : Inv nodes s) where
   -- no promise is kept at a stage above 25
   pub stage-below : (w : ℕ) → s .worker w .stage < 26
@@ -77,32 +70,32 @@ module _ {nodes : ℕ} {s : State} (inv : Inv nodes s) where
     unfolding promises placed astray seenOf
     rows-fit =
         (λ f. refl)
-        also (λ f. refl)
-        also (λ f. let there : me .pred < nodes = omega (arith, inv .shape .room) in rw (below there, leads there))
-        also (λ f. rw (below (f .curr-in)))
-        also (λ f. rw (below (f .searching .curr-in)))
-        also (λ f. rw (below (f .curr-in), leads (f .curr-in)))
-        also (λ f. rw (below (f .searching .pred-in)))
-        also (λ f. rw (below (f .found .searching .curr-in)))
-        also (λ f. rw (below (f .held .found .searching .pred-in)))
-        also (λ f. rw (below (f .held .held .found .searching .curr-in)))
-        also (λ f. rw (below (f .stays .held .held .found .searching .pred-in), below (f .stays .held .held .found .searching .curr-in)))
-        also (λ f. rw (below (f .held .found .searching .pred-in)))
-        also (λ f. rw (below (f .found .searching .curr-in)))
-        also (λ f. rw (below (f .stay .stays .held .held .found .searching .curr-in)))
-        also (λ f. rw (below (f .neighbours .stay .stays .held .held .found .searching .curr-in)))
-        also (λ f. rw (below (f .gap .neighbours .stay .stays .held .held .found .searching .pred-in), below (f .spare-in)))
-        also (λ f. rw (below (f .neighbours .stay .stays .held .held .found .searching .curr-in)))
-        also (λ f. let there = f .stays .held .held .found .searching .curr-in in rw (below there, leads there))
-        also (λ f. rw (below (f .removed .stays .held .held .found .searching .pred-in), below (spare-in inv w f)))
-        also (λ f. rw (below (f .held .found .searching .pred-in)))
-        also (λ f. rw (below (f .found .searching .curr-in)))
-        also (λ f. refl)
-        also (λ f. refl)
-        also (λ f. rw (below (f .curr-in)))
-        also (λ f. rw (below (f .curr-in), leads (f .curr-in)))
-        also (λ f. rw (below (f .curr-in)))
-        also end
+        then (λ f. refl)
+        then (λ f. let there : me .pred < nodes = omega (arith, inv .shape .room) in rw (below there, leads there))
+        then (λ f. rw (below (f .curr-in)))
+        then (λ f. rw (below (f .searching .curr-in)))
+        then (λ f. rw (below (f .curr-in), leads (f .curr-in)))
+        then (λ f. rw (below (f .searching .pred-in)))
+        then (λ f. rw (below (f .found .searching .curr-in)))
+        then (λ f. rw (below (f .held .found .searching .pred-in)))
+        then (λ f. rw (below (f .held .held .found .searching .curr-in)))
+        then (λ f. rw (below (f .stays .held .held .found .searching .pred-in), below (f .stays .held .held .found .searching .curr-in)))
+        then (λ f. rw (below (f .held .found .searching .pred-in)))
+        then (λ f. rw (below (f .found .searching .curr-in)))
+        then (λ f. rw (below (f .stay .stays .held .held .found .searching .curr-in)))
+        then (λ f. rw (below (f .neighbours .stay .stays .held .held .found .searching .curr-in)))
+        then (λ f. rw (below (f .gap .neighbours .stay .stays .held .held .found .searching .pred-in), below (f .spare-in)))
+        then (λ f. rw (below (f .neighbours .stay .stays .held .held .found .searching .curr-in)))
+        then (λ f. let there = f .stays .held .held .found .searching .curr-in in rw (below there, leads there))
+        then (λ f. rw (below (f .removed .stays .held .held .found .searching .pred-in), below (spare-in inv w f)))
+        then (λ f. rw (below (f .held .found .searching .pred-in)))
+        then (λ f. rw (below (f .found .searching .curr-in)))
+        then (λ f. refl)
+        then (λ f. refl)
+        then (λ f. rw (below (f .curr-in)))
+        then (λ f. rw (below (f .curr-in), leads (f .curr-in)))
+        then (λ f. rw (below (f .curr-in)))
+        then end
 
     -- so no test of the turn holds
     pub passes : NoneHolds (turnRefusals (s .worker w) (seenIn workers nodes s w))

@@ -22,7 +22,8 @@ use Rattle.linear.proofs.State.{State, decode, stepped, startStep}
 use Rattle.linear.proofs.Promises.{in-curr, Live, promises}
 use Rattle.linear.proofs.Invariant.{Ahead, Inv, promised, live-held, live-chain}
 use Rattle.linear.proofs.After.{own-after, others-after, live-after}
-use Rattle.linear.proofs.Rows.{Row, sane-parts, spot, Continues, Verdict, goes-in, goes-out, present, missing, late, Course, rests, goes-on, settles, ends}
+use Rattle.linear.proofs.Course.{Row, spot, Continues, Verdict, goes-in, goes-out, present, missing, late, Course, rests, goes-on, settles, ends}
+use Rattle.linear.proofs.TurnKinds.{sane-parts}
 use Rattle.linear.proofs.Passes.{stage-below}
 use Rattle.linear.proofs.Simulation.{Does, adds, adds-not, is-full, removes, removes-not, finds}
 use Rattle.linear.proofs.Timeline.{has, Happens, nothing, start, turn, own-worker, always, happens, Schedule, state, entry, outcome, decisive, finishing}

@@ -23,7 +23,10 @@ use Rattle.linear.proofs.Invariant.{Inv}
 use Rattle.linear.proofs.Effects.{far, Act, quiet}
 use Rattle.linear.proofs.After.{Places, own-after, view-after, shape-after, stands-after}
 use Rattle.linear.proofs.Stable.{standing-kept}
-use Rattle.linear.proofs.Rows.{Row, FreeFound, steps, row-0, row-1, row-2, row-3, row-4, row-5, row-6, row-7, row-8, row-9, row-10, row-11, row-12, row-13, row-14, row-15, row-16, row-17, row-18, row-19, row-20, row-21, row-22, row-23, row-24, row-25}
+use Rattle.linear.proofs.Course.{Row}
+use Rattle.linear.proofs.TurnKinds.{steps}
+use Rattle.linear.proofs.SearchRows.{row-0, row-1, row-2, row-3, row-4, row-5, row-6, row-7, row-8, row-9, row-10, row-11, row-12, row-17, row-18, row-19, row-20, row-21}
+use Rattle.linear.proofs.AnswerRows.{FreeFound, row-13, row-14, row-15, row-16, row-22, row-23, row-24, row-25}
 
 module _ {nodes : ℕ} {s : State} (inv : Inv nodes s) (w : ℕ) where
   -- a step whose effect may be had, with the worker's own promise afterwards

@@ -22,7 +22,7 @@ use Rattle.linear.proofs.State.{State, decode, stepped, startStep, turn
 use Rattle.linear.proofs.Bridge.{Sound, Entered, refuses, starts, turns, entered, after-sound}
 use Rattle.linear.proofs.FreshState.{fresh-sound, fresh-state}
 use Rattle.linear.proofs.Invariant.{Inv}
-use Rattle.linear.proofs.Rows.{Row}
+use Rattle.linear.proofs.Course.{Row}
 use Rattle.linear.proofs.Preserved.{row-inv, turn-row, start-inv}
 use Rattle.linear.proofs.Passes.{passes, stage-below}
 use Rattle.linear.proofs.FreeNodes.{free-not-live}
