@@ -1,0 +1,2 @@
+-- The theorem on the table of histories.
+pub mod Table

@@ -1,0 +1,24 @@
+-- Every row of the table holds, by computation.
+use mathlib.Core.Path.{_≡_, refl}
+use mathlib.Core.List.{map, flatten}
+use Rattle.worker.specs.Stages.{stepOf}
+use Rattle.worker.specs.Turn.{belongs, kept, placed, astray, busyRefusals, turnRefusals, turnOf}
+use Rattle.arena.specs.Layout.{nodeWidth, headerWords, nodePart, nodeFrom}
+use Rattle.arena.specs.Records.{workerAt, withWorker, nodeAt}
+use Rattle.arena.specs.Header.{isHeader, headerRefusals}
+use Rattle.arena.specs.Init.{freshWorkers, freshNodes, freshWords}
+use Rattle.arena.specs.Start.{callRefusals, startRefusals, startArena}
+use Rattle.arena.specs.Snapshot.{walk, chain}
+use Rattle.lazy.specs.Free.{rootsOf, leads, reached, lowestFrom, lowestFree}
+use Rattle.lazy.specs.Turn.{seenOf, seenBy, workerRefusals, turnOn, withEffect, turnArena}
+use Rattle.linear.specs.Lists.{filter, member, timesFrom, first}
+use Rattle.linear.specs.Sets.{chainOf, setOf}
+use Rattle.linear.specs.Entries.{eventOf, after}
+use Rattle.linear.specs.History.{decides, entryAt, arenaAt, eventAt, finishesAt, decidesAt, absentAt, finishOf, decisionOf, answerOf, pointOf, callAt, calls, totals}
+use Rattle.linear.specs.Order.{goesBefore, inserted, sorted, inOrder}
+use Rattle.linear.specs.Sequential.{including, excluding, replyTo, keysAfter}
+use Rattle.histories.specs.Histories.{found, stated, histories}
+
+pub histories-hold : map found histories ≡ map stated histories
+unfolding flatten nodeWidth headerWords nodePart nodeFrom workerAt withWorker nodeAt isHeader headerRefusals freshWorkers freshNodes freshWords callRefusals startRefusals startArena walk chain stepOf belongs kept placed astray busyRefusals turnRefusals turnOf rootsOf leads reached lowestFrom lowestFree seenOf seenBy workerRefusals turnOn withEffect turnArena filter member timesFrom first chainOf setOf eventOf after decides entryAt arenaAt eventAt finishesAt decidesAt absentAt finishOf decisionOf answerOf pointOf callAt calls totals goesBefore inserted sorted inOrder including excluding replyTo keysAfter
+histories-hold = refl
