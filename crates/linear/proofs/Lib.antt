@@ -2,6 +2,7 @@
 pub mod ListLaws
 pub mod OrderLaws
 pub mod SetLaws
+pub mod SequentialLaws
 pub mod Simulation
 pub mod State
 pub mod Words

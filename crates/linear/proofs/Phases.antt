@@ -72,7 +72,7 @@ module _ (r : Schedule) where
   not-finished : (v now : ℕ) → (isFinished (outcome r now) ≡ false) ⊎ (entry r now .worker ≢ v) →
       finishing r v (suc now) ≡ false
   unfolding finishesAt
-  not-finished v now (inl e) = rw e
+  not-finished v now (inl e) = ap (λ t. t && eqb (entry r now .worker) v) e
   not-finished v now (inr d) = rw (ne-eqb (entry r now .worker) v d, and-false)
 
   -- so a turn that decides a worker's answer is one of that worker

@@ -15,6 +15,7 @@ use Rattle.linear.specs.History.{Call, isLate}
 use Rattle.linear.specs.Order.{rank}
 use Rattle.linear.specs.Sequential.{replyTo, fed, answersTo, keysAfter}
 use Rattle.linear.proofs.ListLaws.{Each, none, _and_, Pairs, alone, _ahead_, each-in, each-of}
+use Rattle.linear.proofs.SequentialLaws.{add-absent, add-full, add-present, remove-present, remove-absent, contains-present, contains-absent}
 use Rattle.linear.proofs.OrderLaws.{Before}
 use Rattle.linear.proofs.SetLaws.{Rising, including-member, excluding-member, including-rises, excluding-rises}
 
@@ -59,18 +60,20 @@ kept holds stays = (holds .0, λ k. holds .1 k ∙ sym (stays k))
 module _ {before after : ℕ → Bool} {operation key answer : ℕ} where
   -- what a call does, the sequential set does too
   does-answered : {keys : List ℕ} → Does before after operation key answer → Holds before keys → Answered after keys operation key answer
-  unfolding replyTo
   does-answered {keys} (adds o a absent changes) holds =
       let new = holds .1 key ∙ absent in
-      rw (o, a, new)
+      rw (o, a, add-absent keys key new)
       (refl, (including-rises key keys (holds .0) new, λ k. including-member key keys k ∙ rw (holds .1 k) (sym (changes k))))
-  does-answered (adds-not o a present stays) holds = rw (o, a, holds .1 key ∙ present) (refl, kept holds stays)
-  does-answered (is-full o a absent stays) holds = rw (o, a, holds .1 key ∙ absent) (refl, kept holds stays)
+  does-answered {keys} (adds-not o a present stays) holds =
+      rw (o, a, add-present keys key false (holds .1 key ∙ present)) (refl, kept holds stays)
+  does-answered {keys} (is-full o a absent stays) holds = rw (o, a, add-full keys key (holds .1 key ∙ absent)) (refl, kept holds stays)
   does-answered {keys} (removes o a present changes) holds =
-      rw (o, a, holds .1 key ∙ present)
+      rw (o, a, remove-present keys key false (holds .1 key ∙ present))
       (refl, (excluding-rises key keys (holds .0), λ k. excluding-member key keys k ∙ rw (holds .1 k) (sym (changes k))))
-  does-answered (removes-not o a absent stays) holds = rw (o, a, holds .1 key ∙ absent) (refl, kept holds stays)
-  does-answered (finds o a present stays) holds = rw (o, a, holds .1 key ∙ present) (refl, kept holds stays)
+  does-answered {keys} (removes-not o a absent stays) holds =
+      rw (o, a, remove-absent keys key false (holds .1 key ∙ absent)) (refl, kept holds stays)
+  does-answered {keys} (finds o a present stays) holds =
+      rw (o, a, contains-present keys key false (holds .1 key ∙ present)) (refl, kept holds stays)
 
   -- and the call is not a contains that answers no
   pub does-early : Does before after operation key answer → isLate operation answer ≡ false
@@ -84,8 +87,7 @@ module _ {before after : ℕ → Bool} {operation key answer : ℕ} where
 -- to a contains of a key that is absent the sequential set answers no
 late-answered : {set : ℕ → Bool} {operation answer : ℕ} (key : ℕ) {keys : List ℕ} →
     operation ≡ contains → answer ≡ answerNumber No → set key ≡ false → Holds set keys → Answered set keys operation key answer
-unfolding replyTo
-late-answered key o a absent holds = rw (o, a, holds .1 key ∙ absent) (refl, holds)
+late-answered key {keys} o a absent holds = rw (o, a, contains-absent keys key false (holds .1 key ∙ absent)) (refl, holds)
 
 -- a call is yet to come at a time: its point is not before it, and not the time itself if it is that of the call's own turn
 record Later (now : ℕ) (call : Call) : Type 0 where
