@@ -2,20 +2,18 @@
 use Prim.Native.Nat.{ℕ, suc, _≤_, _<_}
 use mathlib.Core.Path.{_≡_, refl, sym, ap, subst, _∙_}
 use mathlib.Core.Logic.{_⊎_, inl, inr, ⊎-elim, _≢_}
-use mathlib.Core.Bool.{true, true≢false}
+use mathlib.Core.Bool.{true≢false}
 use native.Mathlib.Omega.{arith}
 use native.Mathlib.Decide.{decLt}
 use Rattle.worker.specs.Worker.{contains}
 use Rattle.worker.specs.Report.{answerNumber}
 use Rattle.worker.specs.declared.report.Answer.the-variants.{No}
-use Rattle.linear.specs.Entries.{isStarted}
 use Rattle.linear.specs.History.{Call}
 use Rattle.linear.specs.Order.{rank}
 use Rattle.linear.proofs.Simulation.{Placed, acting, late}
-use Rattle.linear.proofs.State.{stepped, startStep}
-use Rattle.linear.proofs.Timeline.{has, Happens, nothing, start, turn, happens, Schedule, state, last, entry, starts-at, call-at}
+use Rattle.linear.proofs.Timeline.{Begun, has, start, Schedule, state, last, entry, call-at}
 use Rattle.linear.proofs.Phases.{decider, Decided, Phase, runs, closes, finished, phase-at}
-use Rattle.linear.proofs.Points.{Fate, waits, acted, looked, fate}
+use Rattle.linear.proofs.Points.{Fate, waits, acted, looked}
 
 -- a contains that answers no is not the call whose turn it was
 late-rank : (call : Call) {worker operation key start point finish answer : ℕ} → operation ≡ contains → answer ≡ answerNumber No →
@@ -24,35 +22,8 @@ late-rank : (call : Call) {worker operation key start point finish answer : ℕ}
 late-rank call {worker} asks denies e zeroth = let is : suc worker ≡ 0 = rw (e, asks, denies) at zeroth in omega arith
 
 module _ (r : Schedule) where
-  -- the entry after a time starts a call
-  pub record Begun (time : ℕ) : Type 0 where
-    pub known : entry r time .worker < r .workers
-    pub idle : state r time .worker (entry r time .worker) .stage ≡ 0
-    pub next : state r (suc time) ≡ stepped (state r time) (entry r time .worker)
-        (startStep (entry r time .act) (entry r time .key))
-
-  pub begun-at : (time : ℕ) → starts-at r (suc time) ≡ true → Begun time
-  begun-at time e = go (happens r time)
-    where
-      go : Happens r time → Begun time
-      go (nothing unstarted unreported unfinished same) = absurd (true≢false (sym e ∙ unstarted))
-      go (start event idle call known next) = record { known = known; idle = idle; next = next }
-      go (turn step event row rest next) = absurd (true≢false (sym e ∙ ap isStarted event))
-
-  -- what becomes of a call
-  abbrev pub FateOf : (time : ℕ) → Begun time → Type 0
-  FateOf time b = Fate r time (b .known) (b .next)
-
-  pub fate-at : (time : ℕ) (b : Begun time) → suc time ≤ last r → FateOf time b
-  fate-at time b upto = fate r time (b .known) (b .next) upto
-
-  abbrev pub DecidedOf : (time : ℕ) → Begun time → ℕ → Type 0
-  DecidedOf time b t =
-      Decided r (entry r time .worker) (b .known) (entry r time .act)
-      (entry r time .key) (suc time) t
-
   -- an answer is decided once
-  pub decided-once : (time : ℕ) (b : Begun time) {s t : ℕ} → DecidedOf time b s → DecidedOf time b t → s ≡ t
+  pub decided-once : (time : ℕ) (b : Begun r time) {s t : ℕ} → Decided r time b s → Decided r time b t → s ≡ t
   decided-once time b {s} {t} x y =
       elim (decLt s t) [
         | yes l ↦ absurd (true≢false (sym (x .decided) ∙ y .undecided (suc s) (omega (arith, x .begun)) (omega arith)))
@@ -63,17 +34,16 @@ module _ (r : Schedule) where
       ]
 
   -- two calls of which one starts later are not decided by one turn: the worker was idle between them
-  not-both : (s t : ℕ) (b : Begun s) (c : Begun t) → s < t → (d : ℕ) → DecidedOf s b d → DecidedOf t c d → ⊥
+  not-both : (s t : ℕ) (b : Begun r s) (c : Begun r t) → s < t → (d : ℕ) → Decided r s b d → Decided r t c d → ⊥
   not-both s t b c before d x y =
-      go (phase-at r s (b .known) (b .next) t before)
+      go (phase-at r s b t before)
     where
       idle : state r t .worker (entry r s .worker) .stage ≡ 0
       idle =
           subst (λ v. state r t .worker v .stage ≡ 0)
           (sym (decider r _ d (y .decided)) ∙ decider r _ d (x .decided)) (c .idle)
 
-      go : Phase r (entry r s .worker) (b .known) (entry r s .act)
-          (entry r s .key) (suc s) t → ⊥
+      go : Phase r s b t → ⊥
       go (runs o none undecided look) = o .busy idle
       go (closes o some time past it) = o .busy idle
       go (finished time finish past earlier it done rest none) = omega (arith, decided-once s b it x, y .begun)
@@ -84,7 +54,7 @@ module _ (r : Schedule) where
     pointed : call .point ≢ 0 → call .start ≤ call .point → call .point ≤ last r → (call .finish ≡ 0) ⊎ (call .point < call .finish) →
         Placed (has r) call → Told call
 
-  pub told : (time : ℕ) (b : Begun time) → FateOf time b → Told (call-at r (suc time))
+  pub told : (time : ℕ) (b : Begun r time) → Fate r time b → Told (call-at r (suc time))
   told time b (waits e undecided) = subst Told (sym e) (open-yet refl refl)
   told time b (acted t finish it in-time later does e) =
       subst Told (sym e) (pointed (omega arith) (omega (arith, it .begun)) in-time later (acting t refl does))
@@ -93,7 +63,7 @@ module _ (r : Schedule) where
       (pointed (omega arith) low (omega arith) (⊎-elim inl (λ after. inr (omega arith)) later) (late asks denies absent))
 
   -- two calls whose own turns their points are have different points
-  pub own-points : (s t : ℕ) (b : Begun s) (c : Begun t) → s < t → FateOf s b → FateOf t c →
+  pub own-points : (s t : ℕ) (b : Begun r s) (c : Begun r t) → s < t → Fate r s b → Fate r t c →
       call-at r (suc s) .point ≡ call-at r (suc t) .point →
       (rank (call-at r (suc s)) ≡ 0) × (rank (call-at r (suc t)) ≡ 0) →
       call-at r (suc s) .point ≡ 0
@@ -106,4 +76,4 @@ module _ (r : Schedule) where
       absurd (late-rank _ asks denies f (ranks .1))
   own-points s t b c before (acted d finish it in-time later does e) (acted d′ finish′ it′ in′ later′ does′ f) same ranks =
       let point : suc d ≡ suc d′ = sym (ap (λ (call : Call). call .point) e) ∙ same ∙ ap (λ (call : Call). call .point) f in
-      absurd (not-both s t b c before d it (subst (DecidedOf t c) (omega arith) it′))
+      absurd (not-both s t b c before d it (subst (Decided r t c) (omega arith) it′))

@@ -23,11 +23,11 @@ use Rattle.linear.proofs.State.{State, decode, stepped}
 use Rattle.linear.proofs.FreshState.{fresh-state}
 use Rattle.linear.proofs.After.{own-after, others-after}
 use Rattle.linear.proofs.Course.{Row, Verdict, goes-in, goes-out, present, missing, late as late-verdict, Course, rests, goes-on, settles, ends}
-use Rattle.linear.proofs.Timeline.{has, Happens, nothing, start, turn, always, happens, Schedule, arena, state, last, entry, outcome, starts-at, call-at, in-order-of}
+use Rattle.linear.proofs.Timeline.{Begun, begun-at, has, Happens, nothing, start, turn, always, happens, Schedule, arena, state, last, entry, outcome, starts-at, call-at, in-order-of}
 use Rattle.linear.proofs.Keys.{has-kept, has-started}
-use Rattle.linear.proofs.Phases.{Phase, runs, closes, finished, phase-at, decided-now}
-use Rattle.linear.proofs.Points.{waits, acted, looked}
-use Rattle.linear.proofs.Calls.{Begun, begun-at, FateOf, fate-at, DecidedOf, decided-once}
+use Rattle.linear.proofs.Phases.{Decided, Phase, runs, closes, finished, phase-at, decided-now}
+use Rattle.linear.proofs.Points.{waits, acted, looked, Fate, fate}
+use Rattle.linear.proofs.Calls.{decided-once}
 
 -- no turn at 0 decides
 not-idle : (stage answer : ℕ) → decides stage answer ≡ true → stage ≢ 0
@@ -143,11 +143,10 @@ module _ (r : Schedule) where
     begun = begun-at r (o .time) (o .starting)
 
     -- what is said of the call here: the turn decides it, and it is an update
-    decided-here : Phase r (entry r (o .time) .worker) (begun .known)
-        (entry r (o .time) .act) (entry r (o .time) .key) (suc (o .time)) t →
-        DecidedOf r (o .time) begun t × (entry r (o .time) .act ≢ contains)
+    decided-here : Phase r (o .time) begun t →
+        Decided r (o .time) begun t × (entry r (o .time) .act ≢ contains)
     decided-here (runs running none undecided look) = (
-      decided-now r _ (begun .known) _ _ _ t step event (sym (o .own)) row next running undecided look (changing .verdict) (changing .decided),
+      decided-now r (o .time) begun t step event (sym (o .own)) row next running undecided look (changing .verdict) (changing .decided),
       λ asks. changing .update (running .same-operation ∙ asks),
     )
     decided-here (closes running some time past it) = absurd (some (changing .unanswered))
@@ -156,10 +155,10 @@ module _ (r : Schedule) where
 
     changing-call : (call : Call) × List·Memᴰ call (in-order-of r) × (call .point ≡ suc t) × (rank call ≡ 0)
     changing-call =
-        let here = decided-here (phase-at r (o .time) (begun .known) (begun .next) t (o .past)) in
-        go (here .0) (here .1) (fate-at r (o .time) begun (omega (arith, o .past)))
+        let here = decided-here (phase-at r (o .time) begun t (o .past)) in
+        go (here .0) (here .1) (fate r (o .time) begun (omega (arith, o .past)))
       where
-        go : DecidedOf r (o .time) begun t → entry r (o .time) .act ≢ contains → FateOf r (o .time) begun →
+        go : Decided r (o .time) begun t → entry r (o .time) .act ≢ contains → Fate r (o .time) begun →
             (call : Call) × List·Memᴰ call (in-order-of r) × (call .point ≡ suc t) × (rank call ≡ 0)
         go it update (waits e undecided) = absurd (true≢false (sym (it .decided) ∙ undecided (suc t) (omega (arith, it .begun)) (omega arith)))
         go it update (looked d finish point other in-time′ later asks denies absent low high e) = absurd (update asks)

@@ -26,7 +26,7 @@ use Rattle.linear.proofs.Course.{Row, spot, Continues, Verdict, goes-in
 use Rattle.linear.proofs.TurnKinds.{sane-parts}
 use Rattle.linear.proofs.Passes.{stage-below}
 use Rattle.linear.proofs.Simulation.{Does, adds, adds-not, is-full, removes, removes-not, finds}
-use Rattle.linear.proofs.Timeline.{has, Happens, nothing, start, turn, own-worker, always, happens, Schedule, state, entry, outcome, decisive, finishing}
+use Rattle.linear.proofs.Timeline.{Begun, has, Happens, nothing, start, turn, own-worker, always, happens, Schedule, state, entry, outcome, decisive, finishing}
 use Rattle.linear.proofs.Keys.{present-in, in-present, absent-of, has-kept, has-added, has-taken, ahead-on}
 
 -- a look-up stands on a live node
@@ -80,8 +80,20 @@ module _ (r : Schedule) where
   decider v now e =
       ⊎-elim (λ own. own) (λ other. absurd (true≢false (sym e ∙ not-decided v now (inr other)))) (same? (entry r now .worker) v)
 
-  -- the call of worker v, of an operation and a key, that starts at a time
-  module _ (v : ℕ) (known : v < r .workers) (operation key begin : ℕ) where
+  -- the call that the entry after a time starts
+  module _ (origin : ℕ) (b : Begun r origin) where
+    abbrev v : ℕ
+    v = entry r origin .worker
+
+    abbrev operation : ℕ
+    operation = entry r origin .act
+
+    abbrev key : ℕ
+    key = entry r origin .key
+
+    abbrev begin : ℕ
+    begin = suc origin
+
     -- at a time it goes on, and has not finished so far
     pub record Open (now : ℕ) : Type 0 where
       pub begun : begin ≤ now
@@ -125,7 +137,7 @@ module _ (r : Schedule) where
         decisive r v (suc now) ≡ decides (state r now .worker v .stage) (state r (suc now) .worker v .answer)
     unfolding decidesAt
     turn-decides now event own =
-        rw (event, eq-eqb _ _ own, sub-one, own-worker r now v known, own-worker r (suc now) v known)
+        rw (event, eq-eqb _ _ own, sub-one, own-worker r now v (b .known), own-worker r (suc now) v (b .known))
 
     turn-finishes : (now : ℕ) {report : Report} → outcome r now ≡ turnReported report →
         entry r now .worker ≡ v →
@@ -302,38 +314,25 @@ module _ (r : Schedule) where
         go (start event idle call there next) = by-start event idle next (same? (entry r now .worker) v)
         go (turn step event row idle next) = by-turn step event row next (same? (entry r now .worker) v)
 
-  -- the call that an entry starts
-  module _ (time : ℕ) (known : entry r time .worker < r .workers)
-      (next : state r (suc time) ≡ stepped (state r time) (entry r time .worker)
-      (startStep (entry r time .act) (entry r time .key))) where
-    abbrev v : ℕ
-    v = entry r time .worker
-
-    abbrev operation : ℕ
-    operation = entry r time .act
-
-    abbrev key : ℕ
-    key = entry r time .key
-
-    started : state r (suc time) .worker v ≡ startedWorker operation key
-    started = ap (λ (s : State). s .worker v) next ∙ rw (eq-eqb v v refl)
+    started : state r begin .worker v ≡ startedWorker operation key
+    started = ap (λ (s : State). s .worker v) (b .next) ∙ rw (eq-eqb v v refl)
 
     -- a contains begins at Head: its key is absent now, or ahead
-    first-look : 22 ≤ state r (suc time) .worker v .stage → Since (suc time) (suc time) key ⊎ Ahead (state r (suc time)) (spot (state r (suc time) .worker v)) key
+    first-look : 22 ≤ state r begin .worker v .stage → Since begin begin key ⊎ Ahead (state r begin) (spot (state r begin .worker v)) key
     first-look looks = go (eqb operation contains) refl (rw started at looks)
       where
-        from-head : Since (suc time) (suc time) key ⊎ Ahead (state r (suc time)) 0 key
+        from-head : Since begin begin key ⊎ Ahead (state r begin) 0 key
         from-head =
-            ⊎-elim (λ absent. inl (record { time = suc time; begun = omega arith; past = omega arith; absent = absent }))
-            (λ there. let inside = present-in r (suc time) key there in inr (record { inside = inside; run = inside .chain }))
-            (dichotomy (has r (suc time) key))
+            ⊎-elim (λ absent. inl (record { time = begin; begun = omega arith; past = omega arith; absent = absent }))
+            (λ there. let inside = present-in r begin key there in inr (record { inside = inside; run = inside .chain }))
+            (dichotomy (has r begin key))
 
         go : (asks : Bool) → eqb operation contains ≡ asks → 22 ≤ cond asks 22 1 →
-            Since (suc time) (suc time) key ⊎ Ahead (state r (suc time)) (spot (state r (suc time) .worker v)) key
+            Since begin begin key ⊎ Ahead (state r begin) (spot (state r begin .worker v)) key
         go true e looks = rw (started, e) from-head
         go false e looks = absurd (omega arith)
 
-    pub begins : Phase v known operation key (suc time) (suc time)
+    pub begins : Phase begin
     begins =
         runs
         (record {
@@ -350,10 +349,10 @@ module _ (r : Schedule) where
         busy false stage e = omega arith
 
     -- and is in some phase at every later time
-    pub phase-at : (now : ℕ) → suc time ≤ now → Phase v known operation key (suc time) now
+    pub phase-at : (now : ℕ) → begin ≤ now → Phase now
     phase-at zero begun = absurd (omega arith)
     phase-at (suc now) begun =
-        elim (ℕ-discrete now time) [
-          | yes e ↦ subst (λ t. Phase v known operation key (suc time) (suc t)) (sym e) begins
-          | no d ↦ phase-next v known operation key (suc time) now (phase-at now (omega arith))
+        elim (ℕ-discrete now origin) [
+          | yes e ↦ subst (λ t. Phase (suc t)) (sym e) begins
+          | no d ↦ phase-next now (phase-at now (omega arith))
         ]

@@ -13,16 +13,13 @@ use Rattle.worker.specs.declared.report.Answer.the-variants.{No}
 use Rattle.linear.specs.Lists.{first}
 use Rattle.linear.specs.History.{Call, absentAt, finishOf, decisionOf, answerOf, pointOf, callAt}
 use Rattle.linear.proofs.ListLaws.{first-none, first-is, first-found}
-use Rattle.linear.proofs.State.{stepped, startStep}
 use Rattle.linear.proofs.Simulation.{Does, does-early}
-use Rattle.linear.proofs.Timeline.{has, own-worker, Schedule, state, last, entry, decisive, finishing, call-at}
+use Rattle.linear.proofs.Timeline.{Begun, has, own-worker, Schedule, state, last, entry, decisive, finishing, call-at}
 use Rattle.linear.proofs.Phases.{Settled, acts, looks-up, Decided, Phase, runs, closes, finished, phase-at}
 
 module _ (r : Schedule) where
   -- the call that the entry after a time starts
-  module _ (time : ℕ) (known : entry r time .worker < r .workers)
-      (next : state r (suc time) ≡ stepped (state r time) (entry r time .worker)
-      (startStep (entry r time .act) (entry r time .key))) where
+  module _ (time : ℕ) (b : Begun r time) where
     abbrev v : ℕ
     v = entry r time .worker
 
@@ -31,9 +28,6 @@ module _ (r : Schedule) where
 
     abbrev key : ℕ
     key = entry r time .key
-
-    abbrev DecidedAt : ℕ → Type 0
-    DecidedAt t = Decided r v known operation key (suc time) t
 
     -- its record, with a point, a finish and an answer
     abbrev pub made : ℕ → ℕ → ℕ → Call
@@ -65,15 +59,15 @@ module _ (r : Schedule) where
     pub data Fate : Type 0 where
       waits : call-at r (suc time) ≡ made 0 0 0 →
           ((t : ℕ) → suc time < t → t ≤ last r → decisive r v t ≡ false) → Fate
-      acted : (t finish : ℕ) → DecidedAt t → t < last r → (finish ≡ 0) ⊎ (suc t < finish) →
+      acted : (t finish : ℕ) → Decided r time b t → t < last r → (finish ≡ 0) ⊎ (suc t < finish) →
           Does (has r t) (has r (suc t)) operation key (answerAt t) →
           call-at r (suc time) ≡ made (suc t) finish (answerAt t) → Fate
-      looked : (t finish point : ℕ) → DecidedAt t → t < last r → (finish ≡ 0) ⊎ (suc t < finish) →
+      looked : (t finish point : ℕ) → Decided r time b t → t < last r → (finish ≡ 0) ⊎ (suc t < finish) →
           operation ≡ contains → answerAt t ≡ answerNumber No → has r point key ≡ false →
           suc time ≤ point → point ≤ suc t → call-at r (suc time) ≡ made point finish (answerAt t) → Fate
 
     -- the record of a call that is decided, with the last of its turns
-    module _ (t finish until : ℕ) (it : DecidedAt t) (in-time : t < last r) (later : (finish ≡ 0) ⊎ (suc t < finish))
+    module _ (t finish until : ℕ) (it : Decided r time b t) (in-time : t < last r) (later : (finish ≡ 0) ⊎ (suc t < finish))
         (finishes : finishOf (r .workers) (r .nodes) (r .entries) v (suc time) ≡ finish) (ends : cond (eqb finish 0) (last r) finish ≡ until) (enough : suc t ≤ until) where
       decision : decisionOf (r .workers) (r .nodes) (r .entries) v (suc time) finish ≡ suc t
       unfolding decisionOf
@@ -84,9 +78,9 @@ module _ (r : Schedule) where
 
       answer : answerOf (r .workers) (r .nodes) (r .entries) v (suc t) ≡ answerAt t
       unfolding answerOf
-      answer = rw (ne-eqb (suc t) 0 (omega arith)) (ap (λ (w : Worker). w .answer) (sym (own-worker r (suc t) v known)))
+      answer = rw (ne-eqb (suc t) 0 (omega arith)) (ap (λ (w : Worker). w .answer) (sym (own-worker r (suc t) v (b .known))))
 
-      fate-of : Settled r v known operation key (suc time) t → Fate
+      fate-of : Settled r time b t → Fate
       unfolding pointOf absentAt
       fate-of (acts does) = acted t finish it in-time later does (made-of finishes decision answer (rw (does-early does)))
       fate-of (looks-up asks denies gone) =
@@ -98,9 +92,9 @@ module _ (r : Schedule) where
 
     pub fate : suc time ≤ last r → Fate
     unfolding finishOf
-    fate begun = go (phase-at r time known next (last r) begun)
+    fate begun = go (phase-at r time b (last r) begun)
       where
-        go : Phase r v known operation key (suc time) (last r) → Fate
+        go : Phase r time b (last r) → Fate
         go (runs o none undecided look) = waits (open-record begun (o .unfinished) undecided) undecided
         go (closes o some t past it) =
             fate-of t 0 (last r) it past (inl refl) (first-none _ _ _ (λ s low high. o .unfinished s (omega arith) (omega arith))) refl past (it .settled)

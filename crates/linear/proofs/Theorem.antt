@@ -20,10 +20,11 @@ use Rattle.linear.proofs.Reach.{Reach, here, on, stuck}
 use Rattle.linear.proofs.Bridge.{Entered, refuses, starts, turns}
 use Rattle.linear.proofs.FreshState.{FreshState, fresh-state}
 use Rattle.linear.proofs.Invariant.{In}
-use Rattle.linear.proofs.Timeline.{has, start, entered-at, always, Schedule, arena, state, last, starts-at, call-at, calls-of, in-order-of}
+use Rattle.linear.proofs.Timeline.{begun-at, has, start, entered-at, always, Schedule, arena, state, last, starts-at, call-at, calls-of, in-order-of}
 use Rattle.linear.proofs.Keys.{absent-of}
 use Rattle.worker.specs.declared.report.Report.{Report}
-use Rattle.linear.proofs.Calls.{begun-at, fate-at, Told, open-yet, pointed, told, own-points}
+use Rattle.linear.proofs.Points.{fate}
+use Rattle.linear.proofs.Calls.{Told, open-yet, pointed, told, own-points}
 use Rattle.linear.proofs.Openings.{changes}
 
 -- a refusal with another number than 6 and 7
@@ -55,7 +56,7 @@ module _ (r : Schedule) where
   told-of m =
       let (time, starting, upto, same) = call-of m in
       let b = begun-at r time starting in
-      subst (Told r) (sym same) (told r time b (fate-at r time b upto))
+      subst (Told r) (sym same) (told r time b (fate r time b upto))
 
   -- of the calls in order: each is one of the calls and has a point
   of-order : {call : Call} → List·Memᴰ call (in-order-of r) → List·Memᴰ call (calls-of r) × (hasPoint call ≡ true)
@@ -83,7 +84,7 @@ module _ (r : Schedule) where
   differing (suc s) (suc t) low before high p q =
       let b = begun-at r s p in
       let c = begun-at r t q in
-      own-points r s t b c (omega arith) (fate-at r s b (omega arith)) (fate-at r t c (omega arith))
+      own-points r s t b c (omega arith) (fate r s b (omega arith)) (fate r t c (omega arith))
 
   ordered : Pairs (λ a b. Before a b × Apart a b) (in-order-of r)
   unfolding inOrder calls

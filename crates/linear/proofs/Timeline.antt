@@ -2,7 +2,7 @@
 use Prim.Native.Nat.{ℕ, zero, suc, _≤_, _<_}
 use mathlib.Core.Path.{_≡_, sym, ap, subst, _∙_}
 use mathlib.Core.List.{List}
-use mathlib.Core.Bool.{Bool, true, false}
+use mathlib.Core.Bool.{Bool, true, false, true≢false}
 use native.Mathlib.Omega.{arith}
 use native.Mathlib.Numerals.{sub-one}
 use lib.ListN.{length}
@@ -135,3 +135,18 @@ module _ (r : Schedule) where
 
   pub happens : (time : ℕ) → Happens time
   happens time = happening time (always time) (entered-at time (entry time) (always time))
+
+  -- the entry after a time starts a call
+  pub record Begun (time : ℕ) : Type 0 where
+    pub known : entry time .worker < r .workers
+    pub idle : state time .worker (entry time .worker) .stage ≡ 0
+    pub next : state (suc time) ≡ stepped (state time) (entry time .worker)
+        (startStep (entry time .act) (entry time .key))
+
+  pub begun-at : (time : ℕ) → starts-at (suc time) ≡ true → Begun time
+  begun-at time e = go (happens time)
+    where
+      go : Happens time → Begun time
+      go (nothing unstarted unreported unfinished same) = absurd (true≢false (sym e ∙ unstarted))
+      go (start event idle call known next) = record { known = known; idle = idle; next = next }
+      go (turn step event row rest next) = absurd (true≢false (sym e ∙ ap isStarted event))
