@@ -1,5 +1,5 @@
 -- What a turn comes to: for the nodes, for the worker's own promise, and for its call.
-use Prim.Native.Nat.{ℕ, _≤_, _<_}
+use Prim.Native.Nat.{ℕ, _≤_}
 use mathlib.Core.Path.{_≡_}
 use mathlib.Core.Logic.{_⊎_, _≢_}
 use mathlib.Core.Bool.{true, false, cond}
@@ -47,12 +47,12 @@ module _ {nodes : ℕ} {s : State} {w : ℕ} {e : Effect} (act : Act nodes s w e
 
   -- how a call goes on by a turn: an idle worker rests, a turn goes on, or decides the answer, or finishes
   pub data Course (report : Report) : Type 0 where
-    rests : Keeps act → s .worker w .stage ≡ 0 → new ≡ s .worker w → isFinished (turnReported report) ≡ false → Course report
+    rests : Keeps act → s .worker w .stage ≡ 0 → Course report
     goes-on : Keeps act → Continues (s .worker w) new → new .answer ≡ s .worker w .answer →
         decides (s .worker w .stage) (new .answer) ≡ false → isFinished (turnReported report) ≡ false →
         (22 ≤ new .stage → (22 ≤ s .worker w .stage) × (Ahead s (spot (s .worker w)) (s .worker w .key) → Ahead s (spot new) (s .worker w .key))) → Course report
     settles : Verdict → Continues (s .worker w) new → s .worker w .answer ≡ 0 → new .answer ≢ 0 →
-        decides (s .worker w .stage) (new .answer) ≡ true → isFinished (turnReported report) ≡ false → new .stage < 22 → Course report
+        decides (s .worker w .stage) (new .answer) ≡ true → isFinished (turnReported report) ≡ false → Course report
     ends : Keeps act → s .worker w .stage ≡ 21 → new .stage ≡ 0 → isFinished (turnReported report) ≡ true → Course report
 
 -- all of it

@@ -109,18 +109,18 @@ module _ (r : Schedule) where
     where
       go : Course (row .act) (step .worker) (step .report) →
           ((key : ℕ) → has r (suc t) key ≡ has r t key) ⊎ Changing t v step row
-      go (rests keeps idle same unfinished) = inl (has-kept r t v step (row .act) next keeps)
+      go (rests keeps idle) = inl (has-kept r t v step (row .act) next keeps)
       go (goes-on keeps continues same silent unfinished onward) = inl (has-kept r t v step (row .act) next keeps)
       go (ends keeps at idle done) = inl (has-kept r t v step (row .act) next keeps)
-      go (settles (present keeps inside is) continues none-yet answer settled unfinished low) =
+      go (settles (present keeps inside is) continues none-yet answer settled unfinished) =
           inl (has-kept r t v step (row .act) next keeps)
-      go (settles (missing keeps out is) continues none-yet answer settled unfinished low) =
+      go (settles (missing keeps out is) continues none-yet answer settled unfinished) =
           inl (has-kept r t v step (row .act) next keeps)
-      go (settles (late-verdict keeps asks denies stage out) continues none-yet answer settled unfinished low) =
+      go (settles (late-verdict keeps asks denies stage out) continues none-yet answer settled unfinished) =
           inl (has-kept r t v step (row .act) next keeps)
-      go (settles (goes-in it operation is) continues none-yet answer settled unfinished low) =
+      go (settles (goes-in it operation is) continues none-yet answer settled unfinished) =
           inr (record { verdict = goes-in it operation is; unanswered = none-yet; decided = settled; update = omega arith })
-      go (settles (goes-out it operation is) continues none-yet answer settled unfinished low) =
+      go (settles (goes-out it operation is) continues none-yet answer settled unfinished) =
           inr (record { verdict = goes-out it operation is; unanswered = none-yet; decided = settled; update = omega arith })
 
   -- a call with a point is one of those in order

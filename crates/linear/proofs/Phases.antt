@@ -94,13 +94,21 @@ module _ (r : Schedule) where
     abbrev begin : ℕ
     begin = suc origin
 
+    -- a test holds at no time from its start on, up to now
+    abbrev None : (ℕ → Bool) → ℕ → Type 0
+    None test now = (time : ℕ) → begin < time → time ≤ now → test time ≡ false
+
+    -- hindsight: its key was absent at some time, or is ahead of a place
+    abbrev Sight : ℕ → ℕ → Type 0
+    Sight now place = Since begin now key ⊎ Ahead (state r now) place key
+
     -- at a time it goes on, and has not finished so far
     pub record Open (now : ℕ) : Type 0 where
       pub begun : begin ≤ now
       pub busy : state r now .worker v .stage ≢ 0
       pub same-operation : state r now .worker v .operation ≡ operation
       pub same-key : state r now .worker v .key ≡ key
-      pub unfinished : (time : ℕ) → begin < time → time ≤ now → finishing r v time ≡ false
+      pub unfinished : None (finishing r v) now
 
     -- what its answer is decided to be: what the call does, whole, at this time; or no of a contains, whose key was absent before
     pub data Settled (time : ℕ) : Type 0 where
@@ -111,25 +119,20 @@ module _ (r : Schedule) where
     pub record Decided (time : ℕ) : Type 0 where
       pub begun : begin ≤ time
       pub decided : decisive r v (suc time) ≡ true
-      pub undecided : (t : ℕ) → begin < t → t ≤ time → decisive r v t ≡ false
+      pub undecided : None (decisive r v) time
       pub settled : Settled time
 
     pub data Phase (now : ℕ) : Type 0 where
-      runs : Open now → state r now .worker v .answer ≡ 0 →
-          ((time : ℕ) → begin < time → time ≤ now → decisive r v time ≡ false) →
-          (22 ≤ state r now .worker v .stage → Since begin now key ⊎ Ahead (state r now) (spot (state r now .worker v)) key) → Phase now
+      runs : Open now → state r now .worker v .answer ≡ 0 → None (decisive r v) now →
+          (22 ≤ state r now .worker v .stage → Sight now (spot (state r now .worker v))) → Phase now
       closes : Open now → state r now .worker v .answer ≢ 0 → (time : ℕ) → time < now → Decided time → Phase now
       finished : (time finish : ℕ) → time < finish → finish < now → Decided time → finishing r v (suc finish) ≡ true →
-          state r (suc finish) .worker v .stage ≡ 0 → ((t : ℕ) → begin < t → t ≤ finish → finishing r v t ≡ false) → Phase now
+          state r (suc finish) .worker v .stage ≡ 0 → None (finishing r v) finish → Phase now
 
-    -- what holds up to now, and of the next time, holds up to that
-    up-to : {P : ℕ → Type 0} {now : ℕ} → ((time : ℕ) → begin < time → time ≤ now → P time) → P (suc now) →
-        (time : ℕ) → begin < time → time ≤ suc now → P time
-    up-to {P} {now} before next time after upto = go (same? time (suc now))
-      where
-        go : (time ≡ suc now) ⊎ (time ≢ suc now) → P time
-        go (inl e) = subst P (sym e) next
-        go (inr d) = before time after (omega arith)
+    -- and not at the next time either
+    up-to : {test : ℕ → Bool} {now : ℕ} → None test now → test (suc now) ≡ false → None test (suc now)
+    up-to {test} {now} none next time after upto =
+        elim (ℕ-discrete time (suc now)) [ yes e ↦ rw e next | no d ↦ none time after (omega arith) ]
 
     -- a turn of the worker is judged by its stage and the answer it keeps then
     turn-decides : (now : ℕ) {report : Report} → outcome r now ≡ turnReported report →
@@ -150,8 +153,7 @@ module _ (r : Schedule) where
         and-true false = refl
 
     -- the key was absent before, or is still ahead of the same node, or is absent now
-    look-kept : (now : ℕ) {from : ℕ} → begin ≤ now → Live (r .nodes) (state r now) from → Since begin now key ⊎ Ahead (state r now) from key →
-        Since begin (suc now) key ⊎ Ahead (state r (suc now)) from key
+    look-kept : (now : ℕ) {from : ℕ} → begin ≤ now → Live (r .nodes) (state r now) from → Sight now from → Sight (suc now) from
     look-kept now begun live (inl gone) = inl (longer gone)
     look-kept now begun live (inr ahead) =
         ⊎-elim inr (λ gone. inl (record { time = suc now; begun = omega arith; past = omega arith; absent = gone }))
@@ -218,8 +220,8 @@ module _ (r : Schedule) where
 
       look-next : Open now →
           (22 ≤ step .worker .stage → (22 ≤ before .stage) × (Ahead (state r now) (spot before) (before .key) → Ahead (state r now) (spot (step .worker)) (before .key))) →
-          (22 ≤ before .stage → Since begin now key ⊎ Ahead (state r now) (spot before) key) →
-          22 ≤ state r (suc now) .worker v .stage → Since begin (suc now) key ⊎ Ahead (state r (suc now)) (spot (state r (suc now) .worker v)) key
+          (22 ≤ before .stage → Sight now (spot before)) →
+          22 ≤ state r (suc now) .worker v .stage → Sight (suc now) (spot (state r (suc now) .worker v))
       look-next o onward look =
           rw (after)
           (λ looks.
@@ -244,7 +246,7 @@ module _ (r : Schedule) where
           inl (removes-not (is .0) (is .1) (absent-of r now (before .key) out) (has-kept r now v step (row .act) next it))
       does (late it op answer stage out) = inr (op, answer, stage, out)
 
-      settled-now : Open now → (22 ≤ before .stage → Since begin now key ⊎ Ahead (state r now) (spot before) key) → Verdict (row .act) (step .worker) → Settled now
+      settled-now : Open now → (22 ≤ before .stage → Sight now (spot before)) → Verdict (row .act) (step .worker) → Settled now
       settled-now o look verdict =
           ⊎-elim
           (λ it. acts (rw after (subst (λ k. Does (has r now) (has r (suc now)) operation k (step .worker .answer)) (o .same-key)
@@ -257,24 +259,24 @@ module _ (r : Schedule) where
           (does verdict)
 
       -- the turn decides the answer of a call that runs
-      pub decided-now : Open now → ((time : ℕ) → begin < time → time ≤ now → decisive r v time ≡ false) →
-          (22 ≤ before .stage → Since begin now key ⊎ Ahead (state r now) (spot before) key) → Verdict (row .act) (step .worker) →
+      pub decided-now : Open now → None (decisive r v) now →
+          (22 ≤ before .stage → Sight now (spot before)) → Verdict (row .act) (step .worker) →
           decides (before .stage) (step .worker .answer) ≡ true → Decided now
       decided-now o none look verdict settled =
           record { begun = o .begun; decided = decides-now settled; undecided = none; settled = settled-now o look verdict }
 
       own-turn : Phase now → Course (row .act) (step .worker) (step .report) → Phase (suc now)
       own-turn (finished time finish past earlier it done rest none) course = finished time finish past (omega arith) it done rest none
-      own-turn (runs o undecided none look) (rests it idle same unfinished) = absurd (o .busy idle)
+      own-turn (runs o undecided none look) (rests it idle) = absurd (o .busy idle)
       own-turn (runs o undecided none look) (goes-on it continues same silent unfinished onward) =
           runs (open-next o continues unfinished) (rw after (same ∙ undecided)) (up-to none (decides-now silent)) (look-next o onward look)
-      own-turn (runs o undecided none look) (settles verdict continues none-yet decided settled unfinished low) =
+      own-turn (runs o undecided none look) (settles verdict continues none-yet decided settled unfinished) =
           closes (open-next o continues unfinished) (rw after decided) now (omega arith) (decided-now o none look verdict settled)
       own-turn (runs o undecided none look) (ends it last idle done) = absurd (answered inv v last undecided)
-      own-turn (closes o decided time past it) (rests keeps idle same unfinished) = absurd (o .busy idle)
+      own-turn (closes o decided time past it) (rests keeps idle) = absurd (o .busy idle)
       own-turn (closes o decided time past it) (goes-on keeps continues same silent unfinished onward) =
           closes (open-next o continues unfinished) (rw (after, same) decided) time (omega arith) it
-      own-turn (closes o decided time past it) (settles verdict continues none-yet answer settled unfinished low) = absurd (decided none-yet)
+      own-turn (closes o decided time past it) (settles verdict continues none-yet answer settled unfinished) = absurd (decided none-yet)
       own-turn (closes o decided time past it) (ends keeps last idle done) =
           finished time now past (omega arith) it (finishes-now done) (rw after idle) (o .unfinished)
 
@@ -318,17 +320,16 @@ module _ (r : Schedule) where
     started = ap (λ (s : State). s .worker v) (b .next) ∙ rw (eq-eqb v v refl)
 
     -- a contains begins at Head: its key is absent now, or ahead
-    first-look : 22 ≤ state r begin .worker v .stage → Since begin begin key ⊎ Ahead (state r begin) (spot (state r begin .worker v)) key
+    first-look : 22 ≤ state r begin .worker v .stage → Sight begin (spot (state r begin .worker v))
     first-look looks = go (eqb operation contains) refl (rw started at looks)
       where
-        from-head : Since begin begin key ⊎ Ahead (state r begin) 0 key
+        from-head : Sight begin 0
         from-head =
             ⊎-elim (λ absent. inl (record { time = begin; begun = omega arith; past = omega arith; absent = absent }))
             (λ there. let inside = present-in r begin key there in inr (record { inside = inside; run = inside .chain }))
             (dichotomy (has r begin key))
 
-        go : (asks : Bool) → eqb operation contains ≡ asks → 22 ≤ cond asks 22 1 →
-            Since begin begin key ⊎ Ahead (state r begin) (spot (state r begin .worker v)) key
+        go : (asks : Bool) → eqb operation contains ≡ asks → 22 ≤ cond asks 22 1 → Sight begin (spot (state r begin .worker v))
         go true e looks = rw (started, e) from-head
         go false e looks = absurd (omega arith)
 

@@ -37,7 +37,7 @@ module _ {nodes : ℕ} {s : State} (inv : Inv nodes s) (me : ℕ) where
               promise = subst (λ k. promiseAt k nodes (stepped s me (reports w Idle)) me (w .key) (w .pred) (w .curr) (w .spare)) (sym at) tt;
               sane-record = λ busy. absurd (busy at);
             };
-        course = rests tt at refl refl;
+        course = rests tt at;
       }
 
   pub row-1 : w .stage ≡ 1 → Row nodes s me (to (withPred w 0) 2)

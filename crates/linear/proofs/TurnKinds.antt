@@ -185,5 +185,5 @@ module _ {nodes : ℕ} {s : State} (inv : Inv nodes s) (me : ℕ) where
         standing = record { promise = promise; sane-record = λ busy. good };
         course =
             settles verdict (record { busy = omega arith; operation = refl; key = refl }) undecided decided
-            (subst (λ k. decides k answer ≡ true) (sym at) settled) refl (omega arith);
+            (subst (λ k. decides k answer ≡ true) (sym at) settled) refl;
       }
