@@ -5,15 +5,9 @@ use mathlib.Core.Bool.{true, and-eq-true-iff}
 use native.Mathlib.Omega.{arith}
 use native.Mathlib.Nat.{lt-of-le-of-lt, le-of-lt, mul-le-mul-left, mul-lt-mul-of-pos-right}
 use lib.Pow.{pow-pos}
-use lib.Dec.{leb}
-use borrow.Author.Tests.{leb-true}
 use Rattle.worker.specs.Worker.{within}
+use Rattle.worker.proofs.Laws.{range-bounds}
 use Rattle.arena.specs.Layout.{goodCounts, nodeWidth, layoutNumber, total}
-
-within-bounds : (low high n : ℕ) → within low high n ≡ true → (low ≤ n) × (n ≤ high)
-within-bounds low high n e =
-    let both = and-eq-true-iff (leb low n) (leb n high) .0 e in
-    (leb-true low n (both .0), leb-true n high (both .1))
 
 pub record Counts (workers nodes : ℕ) : Type 0 where
   pub some-workers : 1 ≤ workers
@@ -24,8 +18,8 @@ pub record Counts (workers nodes : ℕ) : Type 0 where
 pub counts : (workers nodes : ℕ) → goodCounts workers nodes ≡ true → Counts workers nodes
 counts workers nodes e =
     let both = and-eq-true-iff (within 1 8 workers) (within 3 1024 nodes) .0 e in
-    let w = within-bounds 1 8 workers (both .0) in
-    let n = within-bounds 3 1024 nodes (both .1) in
+    let w = range-bounds 1 8 workers (both .0) in
+    let n = range-bounds 3 1024 nodes (both .1) in
     record { some-workers = w .0; few-workers = w .1; some-nodes = n .0; few-nodes = n .1 }
 
 -- every offset of an arena fits a word

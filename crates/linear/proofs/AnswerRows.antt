@@ -26,7 +26,7 @@ use Rattle.linear.proofs.Effects.{Known, old, top, link, Act, quiet, fi
 use Rattle.linear.proofs.Stable.{both-held-kept, gap-kept}
 use Rattle.linear.proofs.After.{Places, live-after, others-after}
 use Rattle.linear.proofs.Course.{goes-in, goes-out, present, missing, late, Row}
-use Rattle.linear.proofs.TurnKinds.{whole, removing, updates, any-look-up, curr-known, sane-parts, in-range, goes-row, finds-out, looks-on, settles-row}
+use Rattle.linear.proofs.TurnKinds.{whole, removing, updates, any-look-up, curr-known, sane-parts, key-in-range, goes-row, finds-out, looks-on, settles-row}
 
 -- without an answer, neither 13 nor 23 decides
 undecided-13 : (answer : ℕ) → eqb answer 0 ≡ true → decides 13 answer ≡ false
@@ -69,7 +69,7 @@ module _ {nodes : ℕ} {s : State} (inv : Inv nodes s) (me : ℕ) where
       let q = sane-parts inv me at (omega arith) in
       let held = f .stay .stays .held in
       settles-row inv me at 19 2 (quiet (omega arith)) (λ k f. f) held (whole _ _ true (q .0) (q .1) refl)
-      (present tt (in-set (in-curr refl) (held .held .found .searching .curr-in) (f .stay .unmarked) (eqb-true _ _ t) (omega arith) (in-range inv me at (omega arith)))
+      (present tt (in-set (in-curr refl) (held .held .found .searching .curr-in) (f .stay .unmarked) (eqb-true _ _ t) (omega arith) (key-in-range inv me at (omega arith)))
       (inl (eqb-true _ _ a, refl)))
       refl (eqb-true _ _ (q .2)) (omega arith) refl
   row-13 true false a t at =
@@ -100,7 +100,7 @@ module _ {nodes : ℕ} {s : State} (inv : Inv nodes s) (me : ℕ) where
     gap = promised inv me at
 
     fill : Act nodes s me (Fill x (w .key) (w .curr))
-    fill = fills (omega arith) inside free (in-range inv me at (omega arith)) gap
+    fill = fills (omega arith) inside free (key-in-range inv me at (omega arith)) gap
 
     fill-places : Places nodes s me filling
     fill-places = record { known = known; fresh = λ m e. (refl, e) }
@@ -178,7 +178,7 @@ module _ {nodes : ℕ} {s : State} (inv : Inv nodes s) (me : ℕ) where
   row-15 at =
       let f = promised inv me at in
       let q = sane-parts inv me at (omega arith) in
-      settles-row inv me at 19 1 (links at (in-range inv me at (omega arith)) f) (λ k f. f)
+      settles-row inv me at 19 1 (links at (key-in-range inv me at (omega arith)) f) (λ k f. f)
       (both-held-kept _ me (w .key) (w .pred) (w .curr) (λ n h l. refl) (λ n h l o. o) (f .gap .neighbours .stay .stays .held))
       (whole _ _ true (updates (w .operation) (inl (eqb-true _ _ (q .0)))) (q .1) refl) (goes-in tt (eqb-true _ _ (q .0)) refl) refl (eqb-true _ _ (q .2))
       (omega arith) refl
@@ -189,7 +189,7 @@ module _ {nodes : ℕ} {s : State} (inv : Inv nodes s) (me : ℕ) where
       let f = promised inv me at in
       let q = sane-parts inv me at (omega arith) in
       let stays = f .neighbours .stay .stays in
-      settles-row inv me at 17 1 (marks (omega arith) (in-range inv me at (omega arith)) f) (λ k f. f)
+      settles-row inv me at 17 1 (marks (omega arith) (key-in-range inv me at (omega arith)) f) (λ k f. f)
       (record {
         stays =
             record {
@@ -240,7 +240,7 @@ module _ {nodes : ℕ} {s : State} (inv : Inv nodes s) (me : ℕ) where
       let f = promised inv me at in
       let q = sane-parts inv me at (omega arith) in
       settles-row inv me at 21 1 (quiet (omega arith)) (λ k f. f) tt (whole _ _ true (any-look-up (w .operation) (eqb-true _ _ (q .0))) (q .1) refl)
-      (present tt (in-set (in-curr refl) (f .curr-in) (eqb-true _ _ t) (f .hit) (omega arith) (in-range inv me at (omega arith))) (inr (eqb-true _ _ (q .0), refl)))
+      (present tt (in-set (in-curr refl) (f .curr-in) (eqb-true _ _ t) (f .hit) (omega arith) (key-in-range inv me at (omega arith))) (inr (eqb-true _ _ (q .0), refl)))
       refl (eqb-true _ _ (q .2)) (omega arith) refl
   row-25 false t at =
       let f = promised inv me at in

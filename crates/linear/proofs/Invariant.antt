@@ -2,10 +2,10 @@
 use Prim.Native.Nat.{ℕ, _≤_, _<_}
 use mathlib.Core.Path.{_≡_, refl, sym, ap, subst, _∙_}
 use mathlib.Core.Logic.{_⊎_, inl, inr, _≢_}
-use mathlib.Core.Bool.{true, and-eq-true-iff}
+use mathlib.Core.Bool.{true}
 use native.Mathlib.Omega.{arith}
-use borrow.Author.Tests.{leb-true}
 use Rattle.worker.specs.Worker.{isKey}
+use Rattle.worker.proofs.Laws.{range-bounds}
 use Rattle.linear.proofs.Reach.{Reach, here, on, one-more, linear, along, rise, same?}
 use Rattle.linear.proofs.State.{State}
 use Rattle.linear.proofs.Promises.{Holds, Root, head, tail, held, Live, promises, promiseAt, sane, Standing}
@@ -79,10 +79,7 @@ Range key = (0 < key) × (key < 65535)
 
 pub key-range : (key : ℕ) → isKey key ≡ true → Range key
 key-range key e =
-    let both = and-eq-true-iff _ _ .0 e in
-    let low = leb-true 1 key (both .0) in
-    let high = leb-true key 65534 (both .1) in
-    (omega arith, omega arith)
+    let bounds = range-bounds 1 65534 key e in (omega arith, omega arith)
 
 module _ {nodes : ℕ} {s : State} (shape : Nodes nodes s) where
   pub not-head : {n : ℕ} → 0 < s .key n → n ≢ 0

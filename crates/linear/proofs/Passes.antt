@@ -6,12 +6,12 @@ use native.Mathlib.Omega.{arith}
 use native.Mathlib.Decide.{ℕ-discrete, decLt}
 use lib.ListN.{List·getD-eq-default}
 use lib.Dec.{leb, ltb, eqb}
-use borrow.Author.Tests.{eq-eqb, ne-eqb, lt-ltb, le-ltb, leb-true, lt-leb, not-true}
+use borrow.Author.Tests.{eq-eqb, ne-eqb, lt-ltb, le-ltb, lt-leb, not-true}
 use Rattle.worker.specs.Worker.{within, isKey, lastStage}
 use Rattle.worker.specs.Stages.{withStage}
 use Rattle.worker.specs.Turn.{belongs, kept, placed, astray, busyRefusals, turnRefusals}
 use Rattle.worker.specs.declared.Worker.{Worker}
-use Rattle.worker.proofs.Laws.{in-range}
+use Rattle.worker.proofs.Laws.{in-range, range-bounds}
 use Rattle.worker.proofs.RefusalLaws.{NoneHolds}
 use Rattle.worker.proofs.Tables.{AllFrom, end, _then_, row-at}
 use Rattle.lazy.specs.Turn.{seenOf}
@@ -33,8 +33,7 @@ whole-record w e =
         cond (within 17 21 (w .stage)) (within 1 3 (w .answer)) (eqb (w .answer) 0) ≡ true → not late || within 1 3 (w .answer) ≡ true
     answered false at given = refl
     answered true at given =
-        let range = and-eq-true-iff (leb 19 (w .stage)) (leb (w .stage) 21) .0 at in
-        rw (in-range 17 21 (w .stage) (omega (arith, leb-true 19 (w .stage) (range .0))) (leb-true (w .stage) 21 (range .1))) at given
+        let bounds = range-bounds 19 21 (w .stage) at in rw (in-range 17 21 (w .stage) (omega arith) (bounds .1)) at given
 
 module _ {nodes : ℕ} {s : State} (inv : Inv nodes s) where
   -- no promise is kept at a stage above 25

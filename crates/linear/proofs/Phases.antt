@@ -2,19 +2,20 @@
 use Prim.Native.Nat.{ℕ, zero, suc, _≤_, _<_}
 use mathlib.Core.Path.{_≡_, refl, sym, ap, subst, _∙_}
 use mathlib.Core.Logic.{_⊎_, inl, inr, ⊎-elim, _≢_}
-use mathlib.Core.Bool.{Bool, true, false, cond, _&&_, true≢false, and-false, and-eq-true-iff}
+use mathlib.Core.Bool.{Bool, true, false, cond, _&&_, true≢false, and-false}
 use mathlib.Mathlib.Data.Bool.Basic.{dichotomy}
 use native.Mathlib.Omega.{arith}
 use native.Mathlib.Decide.{ℕ-discrete}
 use native.Mathlib.Numerals.{sub-one}
-use lib.Dec.{eqb, leb}
-use borrow.Author.Tests.{leb-true, eq-eqb, ne-eqb}
+use lib.Dec.{eqb}
+use borrow.Author.Tests.{eq-eqb, ne-eqb}
 use Rattle.worker.specs.Worker.{contains, startedWorker, firstStage}
 use Rattle.worker.specs.Report.{answerNumber}
 use Rattle.worker.specs.declared.Worker.{Worker}
 use Rattle.worker.specs.declared.report.Answer.the-variants.{No}
 use Rattle.worker.specs.declared.report.Report.{Report}
 use Rattle.worker.specs.declared.report.Step.{Step}
+use Rattle.worker.proofs.Laws.{range-bounds}
 use Rattle.linear.specs.Entries.{callStarted, turnReported, isReported, isFinished}
 use Rattle.linear.specs.History.{decides, finishesAt, decidesAt}
 use Rattle.linear.proofs.Reach.{here, same?}
@@ -48,8 +49,7 @@ spot-live {nodes} {s} inv v looks = go (same? (s .worker v .stage) 22) (same? (s
 -- at 21 there is an answer
 answered : {nodes : ℕ} {s : State} → Inv nodes s → (v : ℕ) → s .worker v .stage ≡ 21 → s .worker v .answer ≡ 0 → ⊥
 answered {s = s} inv v last none =
-    let some = and-eq-true-iff (leb 1 (s .worker v .answer)) (leb (s .worker v .answer) 3) .0 (sane-parts inv v last (omega arith) .2) in
-    omega (arith, leb-true 1 (s .worker v .answer) (some .0))
+    omega (arith, range-bounds 1 3 (s .worker v .answer) (sane-parts inv v last (omega arith) .2))
 
 module _ (r : Schedule) where
   -- a key was absent at some time from one to another

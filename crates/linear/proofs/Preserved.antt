@@ -4,8 +4,8 @@ use mathlib.Core.Path.{_≡_, refl}
 use mathlib.Core.Logic.{_⊎_, inl, inr, _≢_}
 use mathlib.Core.Bool.{Bool, true, false, cond, and-eq-true-iff}
 use native.Mathlib.Omega.{arith}
-use lib.Dec.{eqb, leb}
-use borrow.Author.Tests.{eqb-false, leb-true, le-leb}
+use lib.Dec.{eqb}
+use borrow.Author.Tests.{eqb-false}
 use Rattle.worker.specs.Worker.{add, remove, contains, within, isKey, isCall, newWorker, startedWorker}
 use Rattle.worker.specs.Stages.{reports, stageTable, stepOf}
 use Rattle.worker.specs.Turn.{belongs}
@@ -13,6 +13,7 @@ use Rattle.worker.specs.declared.report.Free.{Free}
 use Rattle.worker.specs.declared.report.Free.the-variants as free
 use Rattle.worker.specs.declared.report.Report.the-variants.{Idle}
 use Rattle.worker.specs.declared.report.Step.{Step}
+use Rattle.worker.proofs.Laws.{range-bounds, in-range}
 use Rattle.worker.proofs.Tables.{AllFrom, end, _then_, row-at}
 use Rattle.lazy.specs.Free.{rootsOf, lowestFree}
 use Rattle.lazy.specs.Turn.{seenOf}
@@ -97,9 +98,7 @@ module _ {nodes : ℕ} {s : State} (inv : Inv nodes s) (w : ℕ) where
 -- an operation of a call that is no contains is an update
 update : (operation : ℕ) → within add contains operation ≡ true → operation ≢ contains → within add remove operation ≡ true
 update operation e d =
-    let both = and-eq-true-iff (leb 1 operation) (leb operation 3) .0 e in
-    let high = leb-true operation 3 (both .1) in
-    rw (both .0, le-leb operation 2 (omega arith))
+    let bounds = range-bounds add contains operation e in in-range add remove operation (bounds .0) (omega arith)
 
 module _ {nodes : ℕ} {s : State} (inv : Inv nodes s) (w operation key : ℕ) (idle : s .worker w .stage ≡ 0) (call : isCall operation key ≡ true) where
   pub start-act : Act nodes s w (startStep operation key .effect)

@@ -8,19 +8,19 @@ use lib.Dec.{eqb, ltb}
 use borrow.Author.Tests.{eqb-true, ltb-true, ltb-false}
 use Rattle.worker.specs.Worker.{within, idleWorker}
 use Rattle.worker.specs.Report.{numberedAnswer}
-use Rattle.worker.specs.Stages.{reports, goes, to, unlocks, withPred, withCurr, withSpare}
+use Rattle.worker.specs.Stages.{withStage, reports, goes, to, unlocks, withPred, withCurr, withSpare}
 use Rattle.worker.specs.Turn.{belongs}
 use Rattle.worker.specs.declared.Worker.{Worker}
 use Rattle.worker.specs.declared.report.Report.the-variants.{Idle, Waits, Finished}
 use Rattle.worker.specs.declared.report.Effect.the-variants.{SetOwner, SetNext}
 use Rattle.linear.specs.History.{decides}
 use Rattle.linear.proofs.State.{State, shapeOf, stepped}
-use Rattle.linear.proofs.Promises.{in-pred, in-curr, BothHeld, CurrHeld, promises, promiseAt, sane}
+use Rattle.linear.proofs.Promises.{in-pred, in-curr, BothHeld, CurrHeld, promises, promiseAt}
 use Rattle.linear.proofs.Invariant.{Inv, promised, sane-at, live-held}
 use Rattle.linear.proofs.Effects.{top, far, link, quiet, owns, unlinks, at-node, off-node, written, two-nodes}
 use Rattle.linear.proofs.Stable.{found-kept, pred-held-kept, both-held-kept}
 use Rattle.linear.proofs.Course.{rests, ends, Row}
-use Rattle.linear.proofs.TurnKinds.{whole, updates, any-call, steps, pred-known, curr-known, spare-known, sane-parts, in-range, searches, walks, finds-out, waits, owns-row}
+use Rattle.linear.proofs.TurnKinds.{Promised, Sane, whole, updates, any-call, steps, pred-known, curr-known, spare-known, sane-parts, key-in-range, searches, walks, finds-out, waits, owns-row}
 
 module _ {nodes : ℕ} {s : State} (inv : Inv nodes s) (me : ℕ) where
   abbrev w : Worker
@@ -49,7 +49,7 @@ module _ {nodes : ℕ} {s : State} (inv : Inv nodes s) (me : ℕ) where
   row-2 at =
       let first : w .pred ≡ 0 = promised inv me at in
       let inside : w .pred < nodes = omega (arith, inv .shape .room) in
-      let below : s .key (w .pred) < w .key = rw (first, inv .shape .head-key) (in-range inv me at (omega arith) .0) in
+      let below : s .key (w .pred) < w .key = rw (first, inv .shape .head-key) (key-in-range inv me at (omega arith) .0) in
       walks inv me at (omega arith) 3 (w .pred) (s .next (w .pred)) (w .spare) refl (pred-known inv me)
       (link (w .pred) (live-held me (in-pred refl) inside) refl) (spare-known inv me)
       (record { pred-in = inside; curr-in = inv .shape .inside (w .pred) inside; below = below }) (sane-at inv me at (omega arith)) refl
@@ -123,8 +123,7 @@ module _ {nodes : ℕ} {s : State} (inv : Inv nodes s) (me : ℕ) where
   gives-up-pred : {n : ℕ} → w .stage ≡ n → n ≢ 15 → (m : ℕ) → within 1 21 m ≡ true →
       (f : BothHeld nodes (shapeOf s) me (w .key) (w .pred) (w .curr)) →
       (CurrHeld nodes (shapeOf (stepped s me (goes w m (SetOwner (w .pred) 0)))) me (w .key) (w .pred) (w .curr) →
-      promiseAt m nodes (stepped s me (goes w m (SetOwner (w .pred) 0))) me (w .key) (w .pred) (w .curr) (w .spare)) →
-      sane m (w .operation) (w .key) (w .answer) ≡ true → decides n (w .answer) ≡ false → Row nodes s me (goes w m (SetOwner (w .pred) 0))
+      Promised inv me (goes w m (SetOwner (w .pred) 0))) → Sane inv me (withStage w m) → decides n (w .answer) ≡ false → Row nodes s me (goes w m (SetOwner (w .pred) 0))
   gives-up-pred at off m early f into good silent =
       owns-row inv me at off m (w .pred) 0 early (inr (f .held .owns))
       (into (record {
@@ -154,7 +153,7 @@ module _ {nodes : ℕ} {s : State} (inv : Inv nodes s) (me : ℕ) where
   row-18 at =
       let f = promised inv me at in
       let q = sane-parts inv me at (omega arith) in
-      searches inv me at 19 (w .pred) (w .curr) (w .spare) refl (unlinks (omega arith) (in-range inv me at (omega arith)) f) tt (λ k f. f)
+      searches inv me at 19 (w .pred) (w .curr) (w .spare) refl (unlinks (omega arith) (key-in-range inv me at (omega arith)) f) tt (λ k f. f)
       (pred-known inv me) (curr-known inv me) (spare-known inv me)
       (both-held-kept _ me (w .key) (w .pred) (w .curr) (λ n h l. refl) (λ n h l o. o) (f .removed .stays .held))
       (whole _ _ _ (updates (w .operation) (inr (eqb-true _ _ (q .0)))) (q .1) (q .2)) refl

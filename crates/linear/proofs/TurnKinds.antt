@@ -4,16 +4,18 @@ use mathlib.Core.Path.{_≡_, refl, sym, subst, _∙_}
 use mathlib.Core.Logic.{_⊎_, inl, inr, _≢_}
 use mathlib.Core.Bool.{Bool, true, false, cond, _&&_, and-eq-true-iff}
 use native.Mathlib.Omega.{arith}
-use lib.Dec.{eqb, leb}
-use borrow.Author.Tests.{eqb-false, leb-true, le-leb}
+use lib.Dec.{eqb}
+use borrow.Author.Tests.{eqb-false}
 use Rattle.worker.specs.Worker.{add, remove, contains, isKey, within}
-use Rattle.worker.specs.Stages.{reports, changed, goes, to, withStage, withAnswer}
+use Rattle.worker.specs.Stages.{withCurr, reports, changed, goes, to, withStage, withAnswer}
 use Rattle.worker.specs.Turn.{belongs}
 use Rattle.worker.specs.declared.Worker.{Worker}
 use Rattle.worker.specs.declared.report.Report.{Report}
 use Rattle.worker.specs.declared.report.Report.the-variants.{Moved, Waits}
+use Rattle.worker.specs.declared.report.Step.{Step}
 use Rattle.worker.specs.declared.report.Effect.{Effect}
 use Rattle.worker.specs.declared.report.Effect.the-variants.{SetOwner}
+use Rattle.worker.proofs.Laws.{range-bounds, in-range}
 use Rattle.linear.specs.Entries.{isFinished, turnReported}
 use Rattle.linear.specs.History.{decides}
 use Rattle.linear.proofs.State.{State, stepped}
@@ -36,10 +38,7 @@ whole a b c x y z = rw (x, y, z)
 -- an operation that is add or remove, and not add
 pub removing : (operation : ℕ) → within add remove operation ≡ true → eqb operation add ≡ false → operation ≡ remove
 removing operation e d =
-    let both = and-eq-true-iff _ _ .0 e in
-    let low = leb-true 1 operation (both .0) in
-    let high = leb-true operation 2 (both .1) in
-    omega (arith, eqb-false operation 1 d)
+    let bounds = range-bounds add remove operation e in omega (arith, eqb-false operation 1 d)
 
 -- add and remove are updates, and each operation is one of a call
 pub updates : (operation : ℕ) → (operation ≡ add) ⊎ (operation ≡ remove) → within add remove operation ≡ true
@@ -48,9 +47,7 @@ updates operation (inr e) = rw e
 
 pub any-call : (operation : ℕ) → within add remove operation ≡ true → within add contains operation ≡ true
 any-call operation e =
-    let both = and-eq-true-iff (leb 1 operation) (leb operation 2) .0 e in
-    let high = leb-true operation 2 (both .1) in
-    rw (both .0, le-leb operation 3 (omega arith))
+    let bounds = range-bounds add remove operation e in in-range add contains operation (bounds .0) (omega arith)
 
 pub any-look-up : (operation : ℕ) → operation ≡ contains → within add contains operation ≡ true
 any-look-up operation e = rw e
@@ -84,14 +81,22 @@ module _ {nodes : ℕ} {s : State} (inv : Inv nodes s) (me : ℕ) where
       (belongs n (w .operation) ≡ true) × (isKey (w .key) ≡ true) × (cond (within 17 21 n) (within 1 3 (w .answer)) (eqb (w .answer) 0) ≡ true)
   sane-parts at busy = parts _ _ _ (sane-at inv me at busy)
 
-  pub in-range : {n : ℕ} → w .stage ≡ n → n ≢ 0 → Range (w .key)
-  in-range at busy = key-range (w .key) (sane-parts at busy .1)
+  pub key-in-range : {n : ℕ} → w .stage ≡ n → n ≢ 0 → Range (w .key)
+  key-in-range at busy = key-range (w .key) (sane-parts at busy .1)
+
+  -- what a step promises of its worker, and that the record is sane
+  abbrev pub Promised : Step → Type 0
+  Promised step =
+      promiseAt (step .worker .stage) nodes (stepped s me step) me (step .worker .key) (step .worker .pred) (step .worker .curr)
+      (step .worker .spare)
+
+  abbrev pub Sane : Worker → Type 0
+  Sane new = sane (new .stage) (new .operation) (new .key) (new .answer) ≡ true
 
   -- a turn that decides nothing, with its report
   pub goes-row : {n : ℕ} → w .stage ≡ n → (new : Worker) (report : Report) {e : Effect} (act : Act nodes s me e) → Keeps act →
       Places nodes s me (record { worker = new; report = report; effect = e }) →
-      promiseAt (new .stage) nodes (stepped s me (record { worker = new; report = report; effect = e })) me (new .key) (new .pred) (new .curr) (new .spare) →
-      sane (new .stage) (new .operation) (new .key) (new .answer) ≡ true →
+      Promised (record { worker = new; report = report; effect = e }) → Sane new →
       Continues w new → new .answer ≡ w .answer → decides n (w .answer) ≡ false → isFinished (turnReported report) ≡ false →
       (22 ≤ new .stage → (22 ≤ n) × (Ahead s (cond (eqb n 22) 0 (w .curr)) (w .key) → Ahead s (spot new) (w .key))) →
       Row nodes s me (record { worker = new; report = report; effect = e })
@@ -109,8 +114,7 @@ module _ {nodes : ℕ} {s : State} (inv : Inv nodes s) (me : ℕ) where
   -- a turn that goes to a stage, where pred, curr and spare are p, c and q then
   moves : {n : ℕ} → w .stage ≡ n → (m p c q : ℕ) {e : Effect} (act : Act nodes s me e) → Keeps act → ((k : ℕ) → Fills e k → ⊥) →
       Known nodes s me p → Known nodes s me c → Known nodes s me q →
-      promiseAt m nodes (stepped s me (goes (changed w m p c q (w .answer)) m e)) me (w .key) p c q →
-      sane m (w .operation) (w .key) (w .answer) ≡ true → m ≢ 0 → decides n (w .answer) ≡ false →
+      Promised (goes (changed w m p c q (w .answer)) m e) → Sane (changed w m p c q (w .answer)) → m ≢ 0 → decides n (w .answer) ≡ false →
       (22 ≤ m → (22 ≤ n) × (Ahead s (cond (eqb n 22) 0 (w .curr)) (w .key) → Ahead s (cond (eqb m 22) 0 c) (w .key))) →
       Row nodes s me (goes (changed w m p c q (w .answer)) m e)
   moves at m p c q act keeps unfilled kp kc kq promise good busy silent onward =
@@ -120,34 +124,26 @@ module _ {nodes : ℕ} {s : State} (inv : Inv nodes s) (me : ℕ) where
   -- the same below 22, so that no look-up is concerned
   pub searches : {n : ℕ} → w .stage ≡ n → (m p c q : ℕ) → within 1 21 m ≡ true → {e : Effect} (act : Act nodes s me e) → Keeps act →
       ((k : ℕ) → Fills e k → ⊥) → Known nodes s me p → Known nodes s me c → Known nodes s me q →
-      promiseAt m nodes (stepped s me (goes (changed w m p c q (w .answer)) m e)) me (w .key) p c q →
-      sane m (w .operation) (w .key) (w .answer) ≡ true → decides n (w .answer) ≡ false →
+      Promised (goes (changed w m p c q (w .answer)) m e) → Sane (changed w m p c q (w .answer)) → decides n (w .answer) ≡ false →
       Row nodes s me (goes (changed w m p c q (w .answer)) m e)
   searches at m p c q early act keeps unfilled kp kc kq promise good silent =
-      let both = and-eq-true-iff _ _ .0 early in
-      let low = leb-true 1 m (both .0) in
-      let high = leb-true m 21 (both .1) in
+      let bounds = range-bounds 1 21 m early in
       moves at m p c q act keeps unfilled kp kc kq promise good (omega arith) silent (λ later. absurd (omega arith))
 
   -- and nothing is written
   pub walks : {n : ℕ} → w .stage ≡ n → n ≢ 15 → (m p c q : ℕ) → within 1 21 m ≡ true → Known nodes s me p → Known nodes s me c → Known nodes s me q →
-      promiseAt m nodes (stepped s me (to (changed w m p c q (w .answer)) m)) me (w .key) p c q →
-      sane m (w .operation) (w .key) (w .answer) ≡ true → decides n (w .answer) ≡ false → Row nodes s me (to (changed w m p c q (w .answer)) m)
+      Promised (to (changed w m p c q (w .answer)) m) → Sane (changed w m p c q (w .answer)) → decides n (w .answer) ≡ false → Row nodes s me (to (changed w m p c q (w .answer)) m)
   walks at off m p c q early = searches at m p c q early (quiet (λ e. off (sym at ∙ e))) tt (λ k f. f)
 
   -- with pred, curr and spare as they were
-  pub finds-out : {n : ℕ} → w .stage ≡ n → n ≢ 15 → (m : ℕ) → within 1 21 m ≡ true → promiseAt m nodes (stepped s me (to w m)) me (w .key) (w .pred) (w .curr) (w .spare) →
-      sane m (w .operation) (w .key) (w .answer) ≡ true → decides n (w .answer) ≡ false → Row nodes s me (to w m)
+  pub finds-out : {n : ℕ} → w .stage ≡ n → n ≢ 15 → (m : ℕ) → within 1 21 m ≡ true → Promised (to w m) → Sane (withStage w m) → decides n (w .answer) ≡ false → Row nodes s me (to w m)
   finds-out at off m early promise good silent =
       walks at off m (w .pred) (w .curr) (w .spare) early pred-known curr-known spare-known promise good silent
 
   -- a turn that waits changes nothing
-  pub waits : {n : ℕ} → w .stage ≡ n → within 1 14 n ≡ true → promiseAt n nodes (stepped s me (reports w Waits)) me (w .key) (w .pred) (w .curr) (w .spare) →
-      decides n (w .answer) ≡ false → Row nodes s me (reports w Waits)
+  pub waits : {n : ℕ} → w .stage ≡ n → within 1 14 n ≡ true → promiseAt n nodes (stepped s me (reports w Waits)) me (w .key) (w .pred) (w .curr) (w .spare) → decides n (w .answer) ≡ false → Row nodes s me (reports w Waits)
   waits {n} at early promise silent =
-      let both = and-eq-true-iff _ _ .0 early in
-      let low = leb-true 1 n (both .0) in
-      let high = leb-true n 14 (both .1) in
+      let bounds = range-bounds 1 14 n early in
       goes-row at w Waits (quiet (omega arith)) tt (steps _ _ (λ k f. f) pred-known curr-known spare-known)
       (subst (λ k. promiseAt k nodes (stepped s me (reports w Waits)) me (w .key) (w .pred) (w .curr) (w .spare)) (sym at) promise)
       (inv .works me .sane-record (omega arith)) (record { busy = omega arith; operation = refl; key = refl }) refl silent refl
@@ -155,30 +151,25 @@ module _ {nodes : ℕ} {s : State} (inv : Inv nodes s) (me : ℕ) where
 
   -- a lock is taken or given up, with pred, curr and spare as they were
   pub owns-row : {n : ℕ} → w .stage ≡ n → n ≢ 15 → (m node owner : ℕ) → within 1 21 m ≡ true → (s .owner node ≡ 0) ⊎ (s .owner node ≡ suc me) →
-      promiseAt m nodes (stepped s me (goes w m (SetOwner node owner))) me (w .key) (w .pred) (w .curr) (w .spare) →
-      sane m (w .operation) (w .key) (w .answer) ≡ true → decides n (w .answer) ≡ false → Row nodes s me (goes w m (SetOwner node owner))
+      Promised (goes w m (SetOwner node owner)) → Sane (withStage w m) → decides n (w .answer) ≡ false → Row nodes s me (goes w m (SetOwner node owner))
   owns-row at off m node owner early may promise good silent =
       searches at m (w .pred) (w .curr) (w .spare) early (owns (λ e. off (sym at ∙ e)) may) tt (λ k f. f) pred-known curr-known spare-known promise good silent
 
   -- a look-up goes on, to another node or not
   pub looks-on : {n : ℕ} → w .stage ≡ n → n ≢ 15 → (m c : ℕ) → m ≢ 0 → Known nodes s me c →
-      promiseAt m nodes (stepped s me (to (changed w m (w .pred) c (w .spare) (w .answer)) m)) me (w .key) (w .pred) c (w .spare) →
-      sane m (w .operation) (w .key) (w .answer) ≡ true → decides n (w .answer) ≡ false → 22 ≤ n →
+      Promised (to (withCurr w c) m) → Sane (withStage w m) → decides n (w .answer) ≡ false → 22 ≤ n →
       (Ahead s (cond (eqb n 22) 0 (w .curr)) (w .key) → Ahead s (cond (eqb m 22) 0 c) (w .key)) →
-      Row nodes s me (to (changed w m (w .pred) c (w .spare) (w .answer)) m)
+      Row nodes s me (to (withCurr w c) m)
   looks-on at off m c busy kc promise good silent looks onward =
       moves at m (w .pred) c (w .spare) (quiet (λ e. off (sym at ∙ e))) tt (λ k f. f) pred-known kc spare-known promise good busy silent
       (λ later. (looks, onward))
 
   -- a turn that decides the answer
   pub settles-row : {n : ℕ} → w .stage ≡ n → (m answer : ℕ) {e : Effect} (act : Act nodes s me e) → ((k : ℕ) → Fills e k → ⊥) →
-      promiseAt m nodes (stepped s me (goes (withAnswer w answer) m e)) me (w .key) (w .pred) (w .curr) (w .spare) →
-      sane m (w .operation) (w .key) answer ≡ true → Verdict act (withStage (withAnswer w answer) m) → within 1 21 m ≡ true →
+      Promised (goes (withAnswer w answer) m e) → Sane (withStage (withAnswer w answer) m) → Verdict act (withStage (withAnswer w answer) m) → within 1 21 m ≡ true →
       w .answer ≡ 0 → answer ≢ 0 → decides n answer ≡ true → Row nodes s me (goes (withAnswer w answer) m e)
   settles-row at m answer act unfilled promise good verdict early undecided decided settled =
-      let both = and-eq-true-iff _ _ .0 early in
-      let low = leb-true 1 m (both .0) in
-      let high = leb-true m 21 (both .1) in
+      let bounds = range-bounds 1 21 m early in
       record {
         act = act;
         placed = steps _ _ unfilled pred-known curr-known spare-known;

@@ -1,10 +1,10 @@
 -- Laws that several proofs cite.
 use Prim.Native.Nat.{ℕ, zero, suc, _≤_, _<_, zero-le}
 use mathlib.Core.Path.{_≡_, refl}
-use mathlib.Core.Bool.{Bool, true, false, _&&_}
+use mathlib.Core.Bool.{Bool, true, false, _&&_, and-eq-true-iff}
 use native.Mathlib.Omega.{arith}
 use lib.Dec.{leb}
-use borrow.Author.Tests.{le-leb, lt-leb}
+use borrow.Author.Tests.{le-leb, lt-leb, leb-true}
 use Rattle.worker.specs.Worker.{within}
 
 -- what the default arm of a match on 0, 1, .., k - 1 knows: the number is none of these
@@ -30,3 +30,8 @@ module _ (low high n : ℕ) where
       and-false : (t : Bool) → t && false ≡ false
       and-false true = refl
       and-false false = refl
+
+  -- and the other way round
+  pub range-bounds : within low high n ≡ true → (low ≤ n) × (n ≤ high)
+  range-bounds e =
+      let both = and-eq-true-iff (leb low n) (leb n high) .0 e in (leb-true low n (both .0), leb-true n high (both .1))
