@@ -29,7 +29,8 @@ pub record View (nodes : ℕ) (s t : State) (w : ℕ) : Type 0 where
   pub leads : (m : ℕ) → Live nodes t m → Known nodes s w (t .next m)
   pub places : (m : ℕ) → Holds (t .worker w) m → Known nodes s w m ⊎ (Live nodes s m → ⊥)
 
-module _ {nodes : ℕ} {s : State} (inv : Inv nodes s) (w : ℕ) {step : Step} (act : Act nodes s w (step .effect)) (placed : Places nodes s w step) where
+module _ {nodes : ℕ} {s : State} (inv : Inv nodes s) (w : ℕ) {step : Step} (act : Act nodes s w (step .effect))
+    (placed : Places nodes s w step) where
   abbrev t : State
   t = stepped s w step
 
@@ -146,7 +147,8 @@ module _ {nodes : ℕ} {s : State} (inv : Inv nodes s) (w : ℕ) {step : Step} (
         where
           at-v : (v ≡ w) ⊎ (v ≢ w) → Stands t n
           at-v (inl p) = chained (rw (q ∙ ap (λ u. s .worker u .spare) p) (linked inv w act (ap (λ u. s .worker u .stage) (sym p) ∙ e)))
-          at-v (inr d) = new v (ap (λ (r : Worker). r .stage) (others-after v d) ∙ e) (q ∙ ap (λ (r : Worker). r .spare) (sym (others-after v d)))
+          at-v (inr d) =
+              new v (ap (λ (r : Worker). r .stage) (others-after v d) ∙ e) (q ∙ ap (λ (r : Worker). r .spare) (sym (others-after v d)))
 
       by : Live nodes s n ⊎ Fills (step .effect) n → Stands t n
       by (inl l) = go l (inv .stands n l)

@@ -54,7 +54,8 @@ module _ {nodes : ℕ} {s : State} (inv : Inv nodes s) (me : ℕ) where
       }
 
   -- a key between those of two neighbours on the chain is not in the set
-  not-in-set : (f : Neighbours nodes (shapeOf s) me (w .key) (w .pred) (w .curr)) → w .stage ≢ 15 → w .key < s .key (w .curr) → In s (w .key) → ⊥
+  not-in-set : (f : Neighbours nodes (shapeOf s) me (w .key) (w .pred) (w .curr)) → w .stage ≢ 15 → w .key < s .key (w .curr) →
+      In s (w .key) → ⊥
   not-in-set f off above =
       let stays = f .stay .stays in
       let searching = stays .held .held .found .searching in
@@ -69,7 +70,9 @@ module _ {nodes : ℕ} {s : State} (inv : Inv nodes s) (me : ℕ) where
       let q = sane-parts inv me at (omega arith) in
       let held = f .stay .stays .held in
       settles-row inv me at 19 2 (quiet (omega arith)) (λ k f. f) held (whole _ _ true (q .0) (q .1) refl)
-      (present tt (in-set (in-curr refl) (held .held .found .searching .curr-in) (f .stay .unmarked) (eqb-true _ _ t) (omega arith) (key-in-range inv me at (omega arith)))
+      (present tt
+      (in-set (in-curr refl) (held .held .found .searching .curr-in) (f .stay .unmarked) (eqb-true _ _ t) (omega arith)
+      (key-in-range inv me at (omega arith)))
       (inl (eqb-true _ _ a, refl)))
       refl (eqb-true _ _ (q .2)) (omega arith) refl
   row-13 true false a t at =
@@ -86,7 +89,9 @@ module _ {nodes : ℕ} {s : State} (inv : Inv nodes s) (me : ℕ) where
       let f = promised inv me at in
       let q = sane-parts inv me at (omega arith) in
       settles-row inv me at 19 2 (quiet (omega arith)) (λ k f. f) (f .stay .stays .held) (whole _ _ true (q .0) (q .1) refl)
-      (missing tt (not-in-set f (omega arith) (omega (arith, f .stay .stays .held .held .found .above, eqb-false (s .key (w .curr)) (w .key) t)))
+      (missing tt
+      (not-in-set f (omega arith)
+      (omega (arith, f .stay .stays .held .held .found .above, eqb-false (s .key (w .curr)) (w .key) t)))
       (inr (removing (w .operation) (q .0) a, refl)))
       refl (eqb-true _ _ (q .2)) (omega arith) refl
 
@@ -180,7 +185,8 @@ module _ {nodes : ℕ} {s : State} (inv : Inv nodes s) (me : ℕ) where
       let q = sane-parts inv me at (omega arith) in
       settles-row inv me at 19 1 (links at (key-in-range inv me at (omega arith)) f) (λ k f. f)
       (both-held-kept _ me (w .key) (w .pred) (w .curr) (λ n h l. refl) (λ n h l o. o) (f .gap .neighbours .stay .stays .held))
-      (whole _ _ true (updates (w .operation) (inl (eqb-true _ _ (q .0)))) (q .1) refl) (goes-in tt (eqb-true _ _ (q .0)) refl) refl (eqb-true _ _ (q .2))
+      (whole _ _ true (updates (w .operation) (inl (eqb-true _ _ (q .0)))) (q .1) refl) (goes-in tt (eqb-true _ _ (q .0)) refl) refl
+      (eqb-true _ _ (q .2))
       (omega arith) refl
 
   pub row-16 : w .stage ≡ 16 → Row nodes s me (goes (withAnswer w 1) 17 (SetMark (w .curr)))
@@ -212,15 +218,19 @@ module _ {nodes : ℕ} {s : State} (inv : Inv nodes s) (me : ℕ) where
       Row nodes s me (cond below (to w 24) (cond equal (to w 25) (denies w 21)))
   unfolding promises belongs decides
   row-23 true equal t u at =
-      looks-on inv me at (omega arith) 24 (w .curr) (omega arith) (curr-known inv me) (record { curr-in = promised inv me at .curr-in; below = ltb-true _ _ t })
+      looks-on inv me at (omega arith) 24 (w .curr) (omega arith) (curr-known inv me)
+      (record { curr-in = promised inv me at .curr-in; below = ltb-true _ _ t })
       (sane-at inv me at (omega arith)) (undecided-23 (w .answer) (sane-parts inv me at (omega arith) .2)) (omega arith) (λ ahead. ahead)
   row-23 false true t u at =
-      looks-on inv me at (omega arith) 25 (w .curr) (omega arith) (curr-known inv me) (record { curr-in = promised inv me at .curr-in; hit = eqb-true _ _ u })
+      looks-on inv me at (omega arith) 25 (w .curr) (omega arith) (curr-known inv me)
+      (record { curr-in = promised inv me at .curr-in; hit = eqb-true _ _ u })
       (sane-at inv me at (omega arith)) (undecided-23 (w .answer) (sane-parts inv me at (omega arith) .2)) (omega arith) (λ ahead. ahead)
   row-23 false false t u at =
       let q = sane-parts inv me at (omega arith) in
-      let above : w .key < s .key (w .curr) = omega (arith, ltb-false (s .key (w .curr)) (w .key) t, eqb-false (s .key (w .curr)) (w .key) u) in
-      settles-row inv me at 21 2 (quiet (omega arith)) (λ k f. f) tt (whole _ _ true (any-look-up (w .operation) (eqb-true _ _ (q .0))) (q .1) refl)
+      let above : w .key < s .key (w .curr) = omega
+      (arith, ltb-false (s .key (w .curr)) (w .key) t, eqb-false (s .key (w .curr)) (w .key) u) in
+      settles-row inv me at 21 2 (quiet (omega arith)) (λ k f. f) tt
+      (whole _ _ true (any-look-up (w .operation) (eqb-true _ _ (q .0))) (q .1) refl)
       (late tt (eqb-true _ _ (q .0)) refl (omega arith)
       (nothing-ahead (inv .shape) (live-held me (in-curr refl) (promised inv me at .curr-in)) (inl above)))
       refl (eqb-true _ _ (q .2)) (omega arith) refl
@@ -239,13 +249,16 @@ module _ {nodes : ℕ} {s : State} (inv : Inv nodes s) (me : ℕ) where
   row-25 true t at =
       let f = promised inv me at in
       let q = sane-parts inv me at (omega arith) in
-      settles-row inv me at 21 1 (quiet (omega arith)) (λ k f. f) tt (whole _ _ true (any-look-up (w .operation) (eqb-true _ _ (q .0))) (q .1) refl)
-      (present tt (in-set (in-curr refl) (f .curr-in) (eqb-true _ _ t) (f .hit) (omega arith) (key-in-range inv me at (omega arith))) (inr (eqb-true _ _ (q .0), refl)))
+      settles-row inv me at 21 1 (quiet (omega arith)) (λ k f. f) tt
+      (whole _ _ true (any-look-up (w .operation) (eqb-true _ _ (q .0))) (q .1) refl)
+      (present tt (in-set (in-curr refl) (f .curr-in) (eqb-true _ _ t) (f .hit) (omega arith) (key-in-range inv me at (omega arith)))
+      (inr (eqb-true _ _ (q .0), refl)))
       refl (eqb-true _ _ (q .2)) (omega arith) refl
   row-25 false t at =
       let f = promised inv me at in
       let q = sane-parts inv me at (omega arith) in
-      settles-row inv me at 21 2 (quiet (omega arith)) (λ k f. f) tt (whole _ _ true (any-look-up (w .operation) (eqb-true _ _ (q .0))) (q .1) refl)
+      settles-row inv me at 21 2 (quiet (omega arith)) (λ k f. f) tt
+      (whole _ _ true (any-look-up (w .operation) (eqb-true _ _ (q .0))) (q .1) refl)
       (late tt (eqb-true _ _ (q .0)) refl (omega arith)
       (nothing-ahead (inv .shape) (live-held me (in-curr refl) (f .curr-in)) (inr (f .hit, eqb-false (s .mark (w .curr)) 0 t))))
       refl (eqb-true _ _ (q .2)) (omega arith) refl

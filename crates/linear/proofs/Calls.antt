@@ -72,7 +72,8 @@ module _ (r : Schedule) where
       absurd (late-rank _ asks denies e (ranks .0))
   own-points s t b c before (acted d finish it in-time later does e) (waits f undecided) same ranks =
       same ∙ ap (λ (call : Call). call .point) f
-  own-points s t b c before (acted d finish it in-time later does e) (looked d′ finish′ point it′ in′ later′ asks denies absent low high f) same ranks =
+  own-points s t b c before (acted d finish it in-time later does e)
+      (looked d′ finish′ point it′ in′ later′ asks denies absent low high f) same ranks =
       absurd (late-rank _ asks denies f (ranks .1))
   own-points s t b c before (acted d finish it in-time later does e) (acted d′ finish′ it′ in′ later′ does′ f) same ranks =
       let point : suc d ≡ suc d′ = sym (ap (λ (call : Call). call .point) e) ∙ same ∙ ap (λ (call : Call). call .point) f in

@@ -24,6 +24,10 @@ use Rattle.linear.proofs.Changes.{Keeps, Adds, Takes}
 abbrev pub spot : Worker → ℕ
 spot w = cond (eqb (w .stage) 22) 0 (w .curr)
 
+-- what was ahead of a look-up in one record is ahead of it in the next, and a look-up does not become one by a turn
+abbrev pub Onward : State → ℕ → Worker → Worker → Type 0
+Onward s key before after = 22 ≤ after .stage → (22 ≤ before .stage) × (Ahead s (spot before) key → Ahead s (spot after) key)
+
 -- the call goes on: its worker is busy with the same operation and key
 pub record Continues (old new : Worker) : Type 0 where
   pub busy : new .stage ≢ 0
@@ -37,10 +41,12 @@ module _ {nodes : ℕ} {s : State} {w : ℕ} {e : Effect} (act : Act nodes s w e
     goes-in : Adds act → s .worker w .operation ≡ add → new .answer ≡ answerNumber Yes → Verdict
     goes-out : Takes act → s .worker w .operation ≡ remove → new .answer ≡ answerNumber Yes → Verdict
     present : Keeps act → In s (s .worker w .key) →
-        ((s .worker w .operation ≡ add) × (new .answer ≡ answerNumber No)) ⊎ ((s .worker w .operation ≡ contains) × (new .answer ≡ answerNumber Yes)) →
+        ((s .worker w .operation ≡ add) × (new .answer ≡ answerNumber No)) ⊎
+        ((s .worker w .operation ≡ contains) × (new .answer ≡ answerNumber Yes)) →
         Verdict
     missing : Keeps act → (In s (s .worker w .key) → ⊥) →
-        ((s .worker w .operation ≡ add) × (new .answer ≡ answerNumber Full)) ⊎ ((s .worker w .operation ≡ remove) × (new .answer ≡ answerNumber No)) →
+        ((s .worker w .operation ≡ add) × (new .answer ≡ answerNumber Full)) ⊎
+        ((s .worker w .operation ≡ remove) × (new .answer ≡ answerNumber No)) →
         Verdict
     late : Keeps act → s .worker w .operation ≡ contains → new .answer ≡ answerNumber No → 23 ≤ s .worker w .stage →
         (Ahead s (s .worker w .curr) (s .worker w .key) → ⊥) → Verdict
@@ -50,12 +56,12 @@ module _ {nodes : ℕ} {s : State} {w : ℕ} {e : Effect} (act : Act nodes s w e
     rests : Keeps act → s .worker w .stage ≡ 0 → Course report
     goes-on : Keeps act → Continues (s .worker w) new → new .answer ≡ s .worker w .answer →
         decides (s .worker w .stage) (new .answer) ≡ false → isFinished (turnReported report) ≡ false →
-        (22 ≤ new .stage → (22 ≤ s .worker w .stage) × (Ahead s (spot (s .worker w)) (s .worker w .key) → Ahead s (spot new) (s .worker w .key))) → Course report
+        Onward s (s .worker w .key) (s .worker w) new → Course report
     settles : Verdict → Continues (s .worker w) new → s .worker w .answer ≡ 0 → new .answer ≢ 0 →
         decides (s .worker w .stage) (new .answer) ≡ true → isFinished (turnReported report) ≡ false → Course report
     ends : Keeps act → s .worker w .stage ≡ 21 → new .stage ≡ 0 → isFinished (turnReported report) ≡ true → Course report
 
--- all of it
+-- all that is said of a turn
 pub record Row (nodes : ℕ) (s : State) (w : ℕ) (step : Step) : Type 0 where
   pub act : Act nodes s w (step .effect)
   pub placed : Places nodes s w step

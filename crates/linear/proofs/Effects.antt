@@ -77,7 +77,8 @@ module _ {nodes : ℕ} {s : State} (inv : Inv nodes s) (w : ℕ) where
   inside-after (owns c o) n l = inv .shape .inside n l
   inside-after (marks c r f) n l = inv .shape .inside n l
   inside-after (fills c i free r f) n l =
-      written (λ m. m < nodes) n _ _ _ (λ e. f .neighbours .stay .stays .held .held .found .searching .curr-in) (λ d. inv .shape .inside n l)
+      written (λ m. m < nodes) n _ _ _ (λ e. f .neighbours .stay .stays .held .held .found .searching .curr-in)
+      (λ d. inv .shape .inside n l)
   inside-after (links c r f) n l = written (λ m. m < nodes) n _ _ _ (λ e. f .spare-in) (λ d. inv .shape .inside n l)
   inside-after (unlinks c r f) n l = written (λ m. m < nodes) n _ _ _ (λ e. spare-in f) (λ d. inv .shape .inside n l)
 

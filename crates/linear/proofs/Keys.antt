@@ -65,10 +65,13 @@ module _ (r : Schedule) where
 
         by : (key : ℕ) (is : Bool) → eqb key own ≡ is →
             has r (suc time) key ≡ (is || has r time key)
-        by key true e = in-next key (subst (In (stepped (state r time) w step)) (sym (eqb-true key own e)) (adds-key inv w step act adds .1))
+        by key true e =
+            in-next key (subst (In (stepped (state r time) w step)) (sym (eqb-true key own e)) (adds-key inv w step act adds .1))
         by key false e =
             same-test _ _
-            (λ h. ⊎-elim (λ i. in-present time key i) (λ same. absurd (eqb-false key own e same)) (adds-key inv w step act adds .3 key (next-in key h)))
+            (λ h.
+            ⊎-elim (λ i. in-present time key i) (λ same. absurd (eqb-false key own e same))
+            (adds-key inv w step act adds .3 key (next-in key h)))
             (λ h. in-next key (adds-key inv w step act adds .2 key (present-in time key h)))
 
     pub has-taken : Takes act → (has r time (state r time .worker w .key) ≡ true)
@@ -81,7 +84,8 @@ module _ (r : Schedule) where
 
         by : (key : ℕ) (is : Bool) → eqb key own ≡ is →
             has r (suc time) key ≡ (not is && has r time key)
-        by key true e = absent-of (suc time) key (λ i. takes-key inv w step act takes .2 key (subst (λ s. In s key) next i) .1 (eqb-true key own e))
+        by key true e =
+            absent-of (suc time) key (λ i. takes-key inv w step act takes .2 key (subst (λ s. In s key) next i) .1 (eqb-true key own e))
         by key false e =
             same-test _ _ (λ h. in-present time key (takes-key inv w step act takes .2 key (next-in key h) .0))
             (λ h. in-next key (takes-key inv w step act takes .1 key (eqb-false key own e) (present-in time key h)))

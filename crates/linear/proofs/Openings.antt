@@ -151,7 +151,9 @@ module _ (r : Schedule) where
     )
     decided-here (closes running some time past it) = absurd (some (changing .unanswered))
     decided-here (finished time finish past earlier it done rest none) =
-        absurd (o .busy (suc finish) (omega (arith, it .begun)) (omega arith) (subst (λ w. state r (suc finish) .worker w .stage ≡ 0) (o .own) rest))
+        absurd
+        (o .busy (suc finish) (omega (arith, it .begun)) (omega arith)
+        (subst (λ w. state r (suc finish) .worker w .stage ≡ 0) (o .own) rest))
 
     changing-call : (call : Call) × List·Memᴰ call (in-order-of r) × (call .point ≡ suc t) × (rank call ≡ 0)
     changing-call =
@@ -160,7 +162,8 @@ module _ (r : Schedule) where
       where
         go : Decided r (o .time) begun t → entry r (o .time) .act ≢ contains → Fate r (o .time) begun →
             (call : Call) × List·Memᴰ call (in-order-of r) × (call .point ≡ suc t) × (rank call ≡ 0)
-        go it update (waits e undecided) = absurd (true≢false (sym (it .decided) ∙ undecided (suc t) (omega (arith, it .begun)) (omega arith)))
+        go it update (waits e undecided) =
+            absurd (true≢false (sym (it .decided) ∙ undecided (suc t) (omega (arith, it .begun)) (omega arith)))
         go it update (looked d finish point other in-time′ later asks denies absent low high e) = absurd (update asks)
         go it update (acted d finish other in-time′ later does e) =
             let same : d ≡ t = decided-once r (o .time) begun other it in

@@ -23,7 +23,7 @@ use Rattle.linear.proofs.State.{State, decode, stepped, startStep}
 use Rattle.linear.proofs.Promises.{in-curr, Live, promises}
 use Rattle.linear.proofs.Invariant.{Ahead, Inv, promised, live-held, live-chain}
 use Rattle.linear.proofs.After.{own-after, others-after, live-after}
-use Rattle.linear.proofs.Course.{Row, spot, Continues, Verdict, goes-in, goes-out, present, missing, late, Course, rests, goes-on, settles, ends}
+use Rattle.linear.proofs.Course.{Row, spot, Onward, Continues, Verdict, goes-in, goes-out, present, missing, late, Course, rests, goes-on, settles, ends}
 use Rattle.linear.proofs.TurnKinds.{sane-parts}
 use Rattle.linear.proofs.Passes.{stage-below}
 use Rattle.linear.proofs.Simulation.{Does, adds, adds-not, is-full, removes, removes-not, finds}
@@ -219,23 +219,23 @@ module _ (r : Schedule) where
           (live-after inv v (row .act) (row .placed) (subst (λ s. Live (r .nodes) s (spot (step .worker))) next (rw after at live)))
 
       look-next : Open now →
-          (22 ≤ step .worker .stage → (22 ≤ before .stage) × (Ahead (state r now) (spot before) (before .key) → Ahead (state r now) (spot (step .worker)) (before .key))) →
+          Onward (state r now) (before .key) before (step .worker) →
           (22 ≤ before .stage → Sight now (spot before)) →
           22 ≤ state r (suc now) .worker v .stage → Sight (suc now) (spot (state r (suc now) .worker v))
       look-next o onward look =
           rw (after)
           (λ looks.
-          let goes = onward looks in
-          look-kept now (o .begun) (spot-before looks)
-          (⊎-elim inl (λ ahead. inr (subst (Ahead (state r now) (spot (step .worker))) (o .same-key) (goes .1 (subst (Ahead (state r now) (spot before)) (sym (o .same-key)) ahead))))
-          (look (goes .0))))
+          let goes = subst (λ k. Onward (state r now) k before (step .worker)) (o .same-key) onward looks in
+          look-kept now (o .begun) (spot-before looks) (⊎-elim inl (λ ahead. inr (goes .1 ahead)) (look (goes .0))))
 
       -- what a verdict comes to, of the worker's operation and key
       does : Verdict (row .act) (step .worker) →
           Does (has r now) (has r (suc now)) (before .operation) (before .key) (step .worker .answer)
-          ⊎ ((before .operation ≡ contains) × (step .worker .answer ≡ answerNumber No) × (23 ≤ before .stage) × (Ahead (state r now) (before .curr) (before .key) → ⊥))
+          ⊎ ((before .operation ≡ contains) × (step .worker .answer ≡ answerNumber No) × (23 ≤ before .stage)
+          × (Ahead (state r now) (before .curr) (before .key) → ⊥))
       does (goes-in it op answer) = let change = has-added r now v step (row .act) next it in inl (adds op answer (change .0) (change .1))
-      does (goes-out it op answer) = let change = has-taken r now v step (row .act) next it in inl (removes op answer (change .0) (change .1))
+      does (goes-out it op answer) =
+          let change = has-taken r now v step (row .act) next it in inl (removes op answer (change .0) (change .1))
       does (present it inside (inl is)) =
           inl (adds-not (is .0) (is .1) (in-present r now (before .key) inside) (has-kept r now v step (row .act) next it))
       does (present it inside (inr is)) =
@@ -312,7 +312,8 @@ module _ (r : Schedule) where
 
         go : Happens r now → Phase (suc now)
         go (nothing unstarted unreported unfinished same) =
-            stands-by now (not-decided v now (inl unreported)) (not-finished v now (inl unfinished)) (ap (λ arena. decode arena .worker v) same) phase
+            stands-by now (not-decided v now (inl unreported)) (not-finished v now (inl unfinished))
+            (ap (λ arena. decode arena .worker v) same) phase
         go (start event idle call there next) = by-start event idle next (same? (entry r now .worker) v)
         go (turn step event row idle next) = by-turn step event row next (same? (entry r now .worker) v)
 

@@ -35,7 +35,8 @@ module _ (r : Schedule) where
         record { worker = v; operation = operation; key = key; start = suc time; point = point; finish = finish; answer = answer }
 
     made-of : {finish decision answer point : ℕ} → finishOf (r .workers) (r .nodes) (r .entries) v (suc time) ≡ finish →
-        decisionOf (r .workers) (r .nodes) (r .entries) v (suc time) finish ≡ decision → answerOf (r .workers) (r .nodes) (r .entries) v decision ≡ answer →
+        decisionOf (r .workers) (r .nodes) (r .entries) v (suc time) finish ≡ decision →
+        answerOf (r .workers) (r .nodes) (r .entries) v decision ≡ answer →
         pointOf (r .workers) (r .nodes) (r .entries) (entry r time) (suc time) decision answer ≡ point →
         call-at r (suc time) ≡ made point finish answer
     unfolding callAt
@@ -68,7 +69,8 @@ module _ (r : Schedule) where
 
     -- the record of a call that is decided, with the last of its turns
     module _ (t finish until : ℕ) (it : Decided r time b t) (in-time : t < last r) (later : (finish ≡ 0) ⊎ (suc t < finish))
-        (finishes : finishOf (r .workers) (r .nodes) (r .entries) v (suc time) ≡ finish) (ends : cond (eqb finish 0) (last r) finish ≡ until) (enough : suc t ≤ until) where
+        (finishes : finishOf (r .workers) (r .nodes) (r .entries) v (suc time) ≡ finish)
+        (ends : cond (eqb finish 0) (last r) finish ≡ until) (enough : suc t ≤ until) where
       decision : decisionOf (r .workers) (r .nodes) (r .entries) v (suc time) finish ≡ suc t
       unfolding decisionOf
       decision =
@@ -86,7 +88,8 @@ module _ (r : Schedule) where
       fate-of (looks-up asks denies gone) =
           let found = first-found (absentAt (r .workers) (r .nodes) (r .entries) key) (suc time) (suc (suc t) - suc time) (gone .begun)
           (omega (arith, gone .begun, gone .past, it .begun)) (rw (gone .absent)) in
-          looked t finish (first (absentAt (r .workers) (r .nodes) (r .entries) key) (suc time) (suc (suc t) - suc time)) it in-time later asks denies
+          looked t finish (first (absentAt (r .workers) (r .nodes) (r .entries) key) (suc time) (suc (suc t) - suc time)) it in-time
+          later asks denies
           (not-true _ (found .0)) (found .1) (omega (arith, found .2, gone .past))
           (made-of finishes decision answer (rw (asks, denies)))
 
@@ -97,7 +100,8 @@ module _ (r : Schedule) where
         go : Phase r time b (last r) → Fate
         go (runs o none undecided look) = waits (open-record begun (o .unfinished) undecided) undecided
         go (closes o some t past it) =
-            fate-of t 0 (last r) it past (inl refl) (first-none _ _ _ (λ s low high. o .unfinished s (omega arith) (omega arith))) refl past (it .settled)
+            fate-of t 0 (last r) it past (inl refl)
+            (first-none _ _ _ (λ s low high. o .unfinished s (omega arith) (omega arith))) refl past (it .settled)
         go (finished t finish past earlier it done rest none) =
             fate-of t (suc finish) (suc finish) it (omega arith) (inr (omega arith))
             (first-is _ _ _ (suc finish) (omega (arith, it .begun)) (omega arith) done (λ s low high. none s (omega arith) (omega arith)))

@@ -31,7 +31,8 @@ use Rattle.linear.proofs.AnswerRows.{FreeFound, row-13, row-14, row-15,
 
 module _ {nodes : ℕ} {s : State} (inv : Inv nodes s) (w : ℕ) where
   -- a step whose effect may be had, with the worker's own promise afterwards
-  pub inv-after : {step : Step} → Act nodes s w (step .effect) → Places nodes s w step → Standing nodes (stepped s w step) w (step .worker) →
+  pub inv-after : {step : Step} → Act nodes s w (step .effect) → Places nodes s w step →
+      Standing nodes (stepped s w step) w (step .worker) →
       Inv nodes (stepped s w step)
   inv-after {step} act placed standing =
       record {
@@ -51,9 +52,11 @@ module _ {nodes : ℕ} {s : State} (inv : Inv nodes s) (w : ℕ) where
   abbrev Rows : ℕ → Step → Type 0
   Rows stage step = s .worker w .stage ≡ stage → Row nodes s w step
 
-  module _ (workers : ℕ) (found : (n : ℕ) → lowestFree (s .next) nodes (rootsOf (s .worker) workers) ≡ free.Node n → (n < nodes) × (Live nodes s n → ⊥))
+  module _ (workers : ℕ)
+      (found : (n : ℕ) → lowestFree (s .next) nodes (rootsOf (s .worker) workers) ≡ free.Node n → (n < nodes) × (Live nodes s n → ⊥))
       (below : s .worker w .stage < 26) where
-    free-found : (asked : Bool) (some : Free) → lowestFree (s .next) nodes (rootsOf (s .worker) workers) ≡ some → FreeFound inv w (cond asked some free.None)
+    free-found : (asked : Bool) (some : Free) → lowestFree (s .next) nodes (rootsOf (s .worker) workers) ≡ some →
+        FreeFound inv w (cond asked some free.None)
     free-found true free.None e = tt
     free-found true (free.Node n) e = found n e
     free-found false some e = tt
@@ -100,7 +103,8 @@ update : (operation : ℕ) → within add contains operation ≡ true → operat
 update operation e d =
     let bounds = range-bounds add contains operation e in in-range add remove operation (bounds .0) (omega arith)
 
-module _ {nodes : ℕ} {s : State} (inv : Inv nodes s) (w operation key : ℕ) (idle : s .worker w .stage ≡ 0) (call : isCall operation key ≡ true) where
+module _ {nodes : ℕ} {s : State} (inv : Inv nodes s) (w operation key : ℕ) (idle : s .worker w .stage ≡ 0)
+    (call : isCall operation key ≡ true) where
   pub start-act : Act nodes s w (startStep operation key .effect)
   start-act = quiet (omega arith)
 
@@ -113,7 +117,9 @@ module _ {nodes : ℕ} {s : State} (inv : Inv nodes s) (w operation key : ℕ) (
     where
       go : (asks : Bool) → eqb operation contains ≡ asks →
           Standing nodes (stepped s w (startStep operation key)) w (newWorker (cond asks 22 1) operation key)
-      go true e = let both = and-eq-true-iff (within add contains operation) (isKey key) .0 call in record { promise = tt; sane-record = λ busy. rw (e, both .1) }
+      go true e =
+          let both = and-eq-true-iff (within add contains operation)
+          (isKey key) .0 call in record { promise = tt; sane-record = λ busy. rw (e, both .1) }
       go false e =
           let both = and-eq-true-iff (within add contains operation) (isKey key) .0 call in
           record { promise = tt; sane-record = λ busy. rw (update operation (both .0) (eqb-false operation 3 e), both .1) }

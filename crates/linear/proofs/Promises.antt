@@ -136,8 +136,8 @@ abbrev pub Promise : Type 1
 Promise = ℕ → State → ℕ → ℕ → ℕ → ℕ → ℕ → Type 0
 
 -- nothing is known of an idle worker, nor where a call begins and where it ends
-abbrev pub Nothing-known : Promise
-Nothing-known nodes s me e pred curr spare = Unit {0}
+abbrev pub NothingKnown : Promise
+NothingKnown nodes s me e pred curr spare = Unit {0}
 
 -- a promise that speaks of the nodes alone, and not of spare
 abbrev pub plain : (ℕ → Shape → ℕ → ℕ → ℕ → ℕ → Type 0) → Promise
@@ -146,8 +146,8 @@ plain P nodes s me e pred curr spare = P nodes (shapeOf s) me e pred curr
 -- row n is what is promised at stage n
 unfoldable pub promises : List Promise
 promises =
-    Nothing-known
-    ∷ Nothing-known
+    NothingKnown
+    ∷ NothingKnown
     ∷ (λ nodes s me e pred curr spare. pred ≡ 0)
     ∷ plain Searching
     ∷ plain Passing
@@ -167,8 +167,8 @@ promises =
     ∷ (λ nodes s. Bypassed nodes (shapeOf s))
     ∷ plain BothHeld
     ∷ plain CurrHeld
-    ∷ Nothing-known
-    ∷ Nothing-known
+    ∷ NothingKnown
+    ∷ NothingKnown
     ∷ plain Looking
     ∷ plain LookingBelow
     ∷ plain LookingAt

@@ -34,7 +34,8 @@ module _ {nodes : ℕ} {s : State} (inv : Inv nodes s) (me : ℕ) where
         placed = steps inv me _ _ (λ k f. f) (pred-known inv me) (curr-known inv me) (spare-known inv me);
         standing =
             record {
-              promise = subst (λ k. promiseAt k nodes (stepped s me (reports w Idle)) me (w .key) (w .pred) (w .curr) (w .spare)) (sym at) tt;
+              promise =
+                  subst (λ k. promiseAt k nodes (stepped s me (reports w Idle)) me (w .key) (w .pred) (w .curr) (w .spare)) (sym at) tt;
               sane-record = λ busy. absurd (busy at);
             };
         course = rests tt at;
@@ -42,7 +43,9 @@ module _ {nodes : ℕ} {s : State} (inv : Inv nodes s) (me : ℕ) where
 
   pub row-1 : w .stage ≡ 1 → Row nodes s me (to (withPred w 0) 2)
   unfolding promises belongs decides
-  row-1 at = walks inv me at (omega arith) 2 0 (w .curr) (w .spare) refl (top refl) (curr-known inv me) (spare-known inv me) refl (sane-at inv me at (omega arith)) refl
+  row-1 at =
+      walks inv me at (omega arith) 2 0 (w .curr) (w .spare) refl (top refl) (curr-known inv me) (spare-known inv me) refl
+      (sane-at inv me at (omega arith)) refl
 
   pub row-2 : w .stage ≡ 2 → Row nodes s me (to (withCurr w (s .next (w .pred))) 3)
   unfolding promises belongs decides
@@ -57,9 +60,11 @@ module _ {nodes : ℕ} {s : State} (inv : Inv nodes s) (me : ℕ) where
   pub row-3 : (below : Bool) → ltb (s .key (w .curr)) (w .key) ≡ below → w .stage ≡ 3 → Row nodes s me (to w (cond below 4 6))
   unfolding promises belongs decides
   row-3 true t at =
-      finds-out inv me at (omega arith) 4 refl (record { searching = promised inv me at; below = ltb-true _ _ t }) (sane-at inv me at (omega arith)) refl
+      finds-out inv me at (omega arith) 4 refl (record { searching = promised inv me at; below = ltb-true _ _ t })
+      (sane-at inv me at (omega arith)) refl
   row-3 false t at =
-      finds-out inv me at (omega arith) 6 refl (record { searching = promised inv me at; above = ltb-false _ _ t }) (sane-at inv me at (omega arith)) refl
+      finds-out inv me at (omega arith) 6 refl (record { searching = promised inv me at; above = ltb-false _ _ t })
+      (sane-at inv me at (omega arith)) refl
 
   pub row-4 : w .stage ≡ 4 → Row nodes s me (to (withPred w (w .curr)) 5)
   unfolding promises belongs decides
@@ -82,7 +87,10 @@ module _ {nodes : ℕ} {s : State} (inv : Inv nodes s) (me : ℕ) where
   unfolding promises belongs decides
   row-6 true t at =
       owns-row inv me at (omega arith) 7 (w .pred) (suc me) refl (inl (eqb-true _ _ t))
-      (record { found = found-kept _ me (w .key) (w .pred) (w .curr) (λ n h l. refl) (promised inv me at); owns = at-node (w .pred) (w .pred) (suc me) _ refl })
+      (record {
+        found = found-kept _ me (w .key) (w .pred) (w .curr) (λ n h l. refl) (promised inv me at);
+        owns = at-node (w .pred) (w .pred) (suc me) _ refl;
+      })
       (sane-at inv me at (omega arith)) refl
   row-6 false t at = waits inv me at refl (promised inv me at) refl
 
@@ -104,26 +112,30 @@ module _ {nodes : ℕ} {s : State} (inv : Inv nodes s) (me : ℕ) where
   pub row-8 : (unmarked : Bool) → eqb (s .mark (w .pred)) 0 ≡ unmarked → w .stage ≡ 8 → Row nodes s me (to w (cond unmarked 9 11))
   unfolding promises belongs decides
   row-8 true t at =
-      finds-out inv me at (omega arith) 9 refl (record { held = promised inv me at; unmarked = eqb-true _ _ t }) (sane-at inv me at (omega arith)) refl
+      finds-out inv me at (omega arith) 9 refl (record { held = promised inv me at; unmarked = eqb-true _ _ t })
+      (sane-at inv me at (omega arith)) refl
   row-8 false t at = finds-out inv me at (omega arith) 11 refl (promised inv me at) (sane-at inv me at (omega arith)) refl
 
   pub row-9 : (unmarked : Bool) → eqb (s .mark (w .curr)) 0 ≡ unmarked → w .stage ≡ 9 → Row nodes s me (to w (cond unmarked 10 11))
   unfolding promises belongs decides
   row-9 true t at =
-      finds-out inv me at (omega arith) 10 refl (record { stays = promised inv me at; unmarked = eqb-true _ _ t }) (sane-at inv me at (omega arith)) refl
+      finds-out inv me at (omega arith) 10 refl (record { stays = promised inv me at; unmarked = eqb-true _ _ t })
+      (sane-at inv me at (omega arith)) refl
   row-9 false t at = finds-out inv me at (omega arith) 11 refl (promised inv me at .held) (sane-at inv me at (omega arith)) refl
 
   pub row-10 : (leads : Bool) → eqb (s .next (w .pred)) (w .curr) ≡ leads → w .stage ≡ 10 → Row nodes s me (to w (cond leads 13 11))
   unfolding promises belongs decides
   row-10 true t at =
-      finds-out inv me at (omega arith) 13 refl (record { stay = promised inv me at; leads = eqb-true _ _ t }) (sane-at inv me at (omega arith)) refl
+      finds-out inv me at (omega arith) 13 refl (record { stay = promised inv me at; leads = eqb-true _ _ t })
+      (sane-at inv me at (omega arith)) refl
   row-10 false t at = finds-out inv me at (omega arith) 11 refl (promised inv me at .stays .held) (sane-at inv me at (omega arith)) refl
 
   -- pred is given up, and curr is still held
   gives-up-pred : {n : ℕ} → w .stage ≡ n → n ≢ 15 → (m : ℕ) → within 1 21 m ≡ true →
       (f : BothHeld nodes (shapeOf s) me (w .key) (w .pred) (w .curr)) →
       (CurrHeld nodes (shapeOf (stepped s me (goes w m (SetOwner (w .pred) 0)))) me (w .key) (w .pred) (w .curr) →
-      Promised inv me (goes w m (SetOwner (w .pred) 0))) → Sane inv me (withStage w m) → decides n (w .answer) ≡ false → Row nodes s me (goes w m (SetOwner (w .pred) 0))
+      Promised inv me (goes w m (SetOwner (w .pred) 0))) → Sane inv me (withStage w m) → decides n (w .answer) ≡ false →
+      Row nodes s me (goes w m (SetOwner (w .pred) 0))
   gives-up-pred at off m early f into good silent =
       owns-row inv me at off m (w .pred) 0 early (inr (f .held .owns))
       (into (record {
@@ -146,14 +158,16 @@ module _ {nodes : ℕ} {s : State} (inv : Inv nodes s) (me : ℕ) where
       let f = promised inv me at in
       let inside = f .stays .held .held .found .searching .curr-in in
       walks inv me at (omega arith) 18 (w .pred) (w .curr) (s .next (w .curr)) refl (pred-known inv me) (curr-known inv me)
-      (link (w .curr) (live-held me (in-curr refl) inside) refl) (record { removed = f; after = refl }) (sane-at inv me at (omega arith)) refl
+      (link (w .curr) (live-held me (in-curr refl) inside) refl) (record { removed = f; after = refl })
+      (sane-at inv me at (omega arith)) refl
 
   pub row-18 : w .stage ≡ 18 → Row nodes s me (goes w 19 (SetNext (w .pred) (w .spare)))
   unfolding promises belongs decides
   row-18 at =
       let f = promised inv me at in
       let q = sane-parts inv me at (omega arith) in
-      searches inv me at 19 (w .pred) (w .curr) (w .spare) refl (unlinks (omega arith) (key-in-range inv me at (omega arith)) f) tt (λ k f. f)
+      searches inv me at 19 (w .pred) (w .curr) (w .spare) refl (unlinks (omega arith) (key-in-range inv me at (omega arith)) f) tt
+      (λ k f. f)
       (pred-known inv me) (curr-known inv me) (spare-known inv me)
       (both-held-kept _ me (w .key) (w .pred) (w .curr) (λ n h l. refl) (λ n h l o. o) (f .removed .stays .held))
       (whole _ _ _ (updates (w .operation) (inr (eqb-true _ _ (q .0)))) (q .1) (q .2)) refl
@@ -166,7 +180,8 @@ module _ {nodes : ℕ} {s : State} (inv : Inv nodes s) (me : ℕ) where
   unfolding promises belongs decides
   row-20 at =
       let q = sane-parts inv me at (omega arith) in
-      owns-row inv me at (omega arith) 21 (w .curr) 0 refl (inr (promised inv me at .owns)) tt (whole _ _ _ (any-call (w .operation) (q .0)) (q .1) (q .2)) refl
+      owns-row inv me at (omega arith) 21 (w .curr) 0 refl (inr (promised inv me at .owns)) tt
+      (whole _ _ _ (any-call (w .operation) (q .0)) (q .1) (q .2)) refl
 
   pub row-21 : w .stage ≡ 21 → Row nodes s me (reports idleWorker (Finished (numberedAnswer (w .answer))))
   unfolding promises

@@ -28,7 +28,8 @@ use Rattle.linear.proofs.Calls.{Told, open-yet, pointed, told, own-poin
 use Rattle.linear.proofs.Openings.{changes}
 
 -- a refusal with another number than 6 and 7
-other-number : {number : ℕ} → number ≡ noSuchWorker → (entryRefused number ≢ entryRefused brokenRecord) × (entryRefused number ≢ entryRefused brokenChain)
+other-number : {number : ℕ} → number ≡ noSuchWorker →
+    (entryRefused number ≢ entryRefused brokenRecord) × (entryRefused number ≢ entryRefused brokenChain)
 other-number {number} e =
     (λ same. let six : number ≡ brokenRecord = cc in omega arith, λ same. let seven : number ≡ brokenChain = cc in omega arith)
 

@@ -111,7 +111,8 @@ module _ (r : Schedule) where
   happening : (time : ℕ) → Inv (r .nodes) (state time) → Entered (r .workers) (r .nodes) (arena time) (entry time) → Happens time
   unfolding arenaAt
   happening time inv (refuses number event same known) =
-      let is : outcome time ≡ entryRefused number = outcome-is time ∙ event in nothing (ap isStarted is) (ap isReported is) (ap isFinished is) same
+      let is : outcome time ≡ entryRefused number = outcome-is time ∙ event in nothing (ap isStarted is) (ap isReported is)
+      (ap isFinished is) same
   happening time inv (starts event turning known idle call next) = start (outcome-is time ∙ event) idle call known next
   happening time inv (turns event turning known next) =
       let w = entry time .worker in

@@ -78,7 +78,8 @@ module _ {nodes : ℕ} {s : State} (inv : Inv nodes s) (me : ℕ) where
 
   -- the test on the record, by its parts
   pub sane-parts : {n : ℕ} → w .stage ≡ n → n ≢ 0 →
-      (belongs n (w .operation) ≡ true) × (isKey (w .key) ≡ true) × (cond (within 17 21 n) (within 1 3 (w .answer)) (eqb (w .answer) 0) ≡ true)
+      (belongs n (w .operation) ≡ true) × (isKey (w .key) ≡ true) ×
+      (cond (within 17 21 n) (within 1 3 (w .answer)) (eqb (w .answer) 0) ≡ true)
   sane-parts at busy = parts _ _ _ (sane-at inv me at busy)
 
   pub key-in-range : {n : ℕ} → w .stage ≡ n → n ≢ 0 → Range (w .key)
@@ -106,9 +107,9 @@ module _ {nodes : ℕ} {s : State} (inv : Inv nodes s) (me : ℕ) where
         placed = placed;
         standing = record { promise = promise; sane-record = λ busy. good };
         course =
-            goes-on keeps continues same (subst (λ a. decides (w .stage) a ≡ false) (sym same) (subst (λ k. decides k (w .answer) ≡ false) (sym at) silent))
-            unfinished
-            (λ later. subst (λ k. (22 ≤ k) × (Ahead s (cond (eqb k 22) 0 (w .curr)) (w .key) → Ahead s (spot new) (w .key))) (sym at) (onward later));
+            goes-on keeps continues same (rw (same, at) silent) unfinished
+            (λ later.
+            subst (λ k. (22 ≤ k) × (Ahead s (cond (eqb k 22) 0 (w .curr)) (w .key) → Ahead s (spot new) (w .key))) (sym at) (onward later));
       }
 
   -- a turn that goes to a stage, where pred, curr and spare are p, c and q then
@@ -131,17 +132,22 @@ module _ {nodes : ℕ} {s : State} (inv : Inv nodes s) (me : ℕ) where
       moves at m p c q act keeps unfilled kp kc kq promise good (omega arith) silent (λ later. absurd (omega arith))
 
   -- and nothing is written
-  pub walks : {n : ℕ} → w .stage ≡ n → n ≢ 15 → (m p c q : ℕ) → within 1 21 m ≡ true → Known nodes s me p → Known nodes s me c → Known nodes s me q →
-      Promised (to (changed w m p c q (w .answer)) m) → Sane (changed w m p c q (w .answer)) → decides n (w .answer) ≡ false → Row nodes s me (to (changed w m p c q (w .answer)) m)
+  pub walks : {n : ℕ} → w .stage ≡ n → n ≢ 15 → (m p c q : ℕ) → within 1 21 m ≡ true → Known nodes s me p → Known nodes s me c →
+      Known nodes s me q →
+      Promised (to (changed w m p c q (w .answer)) m) → Sane (changed w m p c q (w .answer)) → decides n (w .answer) ≡ false →
+      Row nodes s me (to (changed w m p c q (w .answer)) m)
   walks at off m p c q early = searches at m p c q early (quiet (λ e. off (sym at ∙ e))) tt (λ k f. f)
 
   -- with pred, curr and spare as they were
-  pub finds-out : {n : ℕ} → w .stage ≡ n → n ≢ 15 → (m : ℕ) → within 1 21 m ≡ true → Promised (to w m) → Sane (withStage w m) → decides n (w .answer) ≡ false → Row nodes s me (to w m)
+  pub finds-out : {n : ℕ} → w .stage ≡ n → n ≢ 15 → (m : ℕ) → within 1 21 m ≡ true → Promised (to w m) → Sane (withStage w m) →
+      decides n (w .answer) ≡ false → Row nodes s me (to w m)
   finds-out at off m early promise good silent =
       walks at off m (w .pred) (w .curr) (w .spare) early pred-known curr-known spare-known promise good silent
 
   -- a turn that waits changes nothing
-  pub waits : {n : ℕ} → w .stage ≡ n → within 1 14 n ≡ true → promiseAt n nodes (stepped s me (reports w Waits)) me (w .key) (w .pred) (w .curr) (w .spare) → decides n (w .answer) ≡ false → Row nodes s me (reports w Waits)
+  pub waits : {n : ℕ} → w .stage ≡ n → within 1 14 n ≡ true →
+      promiseAt n nodes (stepped s me (reports w Waits)) me (w .key) (w .pred) (w .curr) (w .spare) → decides n (w .answer) ≡ false →
+      Row nodes s me (reports w Waits)
   waits {n} at early promise silent =
       let bounds = range-bounds 1 14 n early in
       goes-row at w Waits (quiet (omega arith)) tt (steps _ _ (λ k f. f) pred-known curr-known spare-known)
@@ -150,10 +156,13 @@ module _ {nodes : ℕ} {s : State} (inv : Inv nodes s) (me : ℕ) where
       (λ later. absurd (omega arith))
 
   -- a lock is taken or given up, with pred, curr and spare as they were
-  pub owns-row : {n : ℕ} → w .stage ≡ n → n ≢ 15 → (m node owner : ℕ) → within 1 21 m ≡ true → (s .owner node ≡ 0) ⊎ (s .owner node ≡ suc me) →
-      Promised (goes w m (SetOwner node owner)) → Sane (withStage w m) → decides n (w .answer) ≡ false → Row nodes s me (goes w m (SetOwner node owner))
+  pub owns-row : {n : ℕ} → w .stage ≡ n → n ≢ 15 → (m node owner : ℕ) → within 1 21 m ≡ true →
+      (s .owner node ≡ 0) ⊎ (s .owner node ≡ suc me) →
+      Promised (goes w m (SetOwner node owner)) → Sane (withStage w m) → decides n (w .answer) ≡ false →
+      Row nodes s me (goes w m (SetOwner node owner))
   owns-row at off m node owner early may promise good silent =
-      searches at m (w .pred) (w .curr) (w .spare) early (owns (λ e. off (sym at ∙ e)) may) tt (λ k f. f) pred-known curr-known spare-known promise good silent
+      searches at m (w .pred) (w .curr) (w .spare) early (owns (λ e. off (sym at ∙ e)) may) tt
+      (λ k f. f) pred-known curr-known spare-known promise good silent
 
   -- a look-up goes on, to another node or not
   pub looks-on : {n : ℕ} → w .stage ≡ n → n ≢ 15 → (m c : ℕ) → m ≢ 0 → Known nodes s me c →
@@ -166,7 +175,8 @@ module _ {nodes : ℕ} {s : State} (inv : Inv nodes s) (me : ℕ) where
 
   -- a turn that decides the answer
   pub settles-row : {n : ℕ} → w .stage ≡ n → (m answer : ℕ) {e : Effect} (act : Act nodes s me e) → ((k : ℕ) → Fills e k → ⊥) →
-      Promised (goes (withAnswer w answer) m e) → Sane (withStage (withAnswer w answer) m) → Verdict act (withStage (withAnswer w answer) m) → within 1 21 m ≡ true →
+      Promised (goes (withAnswer w answer) m e) → Sane (withStage (withAnswer w answer) m) →
+      Verdict act (withStage (withAnswer w answer) m) → within 1 21 m ≡ true →
       w .answer ≡ 0 → answer ≢ 0 → decides n answer ≡ true → Row nodes s me (goes (withAnswer w answer) m e)
   settles-row at m answer act unfilled promise good verdict early undecided decided settled =
       let bounds = range-bounds 1 21 m early in
