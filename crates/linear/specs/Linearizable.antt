@@ -15,7 +15,7 @@ use Rattle.linear.specs.Sequential.{answersTo, keysAfter}
 module _ (workers nodes : ℕ) (entries : List Entry) where
   pub record Linearizable : Type 0 where
     -- the calls that have reached their points, taken whole and one after another by the sequential set, have the same answers there as
-    -- turn by turn
+    -- turn by turn; it answers full only for an absent key, and then changes nothing (`replyTo`)
     pub same-answers :
         answersTo [] (inOrder workers nodes entries) ≡ map (λ (call : Call). call .answer) (inOrder workers nodes entries)
     -- no call's point is before its start
