@@ -61,9 +61,6 @@ Fills (SetMark n) m = ⊥
 Fills (Fill n key next) m = m ≡ n
 
 module _ {nodes : ℕ} {s : State} (inv : Inv nodes s) (w : ℕ) where
-  pred-live : {e curr : ℕ} → Searching nodes (shapeOf s) w e (s .worker w .pred) curr → Live nodes s (s .worker w .pred)
-  pred-live f = live-held w (in-pred refl) (f .pred-in)
-
   curr-live : {e pred : ℕ} → Searching nodes (shapeOf s) w e pred (s .worker w .curr) → Live nodes s (s .worker w .curr)
   curr-live f = live-held w (in-curr refl) (f .curr-in)
 

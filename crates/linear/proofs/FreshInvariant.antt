@@ -10,7 +10,7 @@ use Rattle.linear.proofs.Promises.{Root, head, tail, held, Live, promis
 use Rattle.linear.proofs.Invariant.{Stands, chained, Inv}
 use Rattle.linear.proofs.FreeNodes.{idle-holds}
 
-module _ {nodes : ℕ} {s : State} (room : 2 < nodes) (cap : nodes ≤ 65535) (fresh : FreshState nodes s) where
+module _ {nodes : ℕ} {s : State} (room : 2 < nodes) (cap : nodes ≤ 65535) (fresh : FreshState s) where
   -- only Head and Tail are live
   two-live : {n : ℕ} → Live nodes s n → (n ≡ 0) ⊎ (n ≡ 1)
   two-live live = along (λ n. (n ≡ 0) ⊎ (n ≡ 1)) keeps (roots (live .root)) (live .run)

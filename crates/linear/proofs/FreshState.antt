@@ -35,7 +35,7 @@ fresh-sound workers nodes good =
     }
 
 -- the fresh arena, decoded
-pub record FreshState (nodes : ℕ) (s : State) : Type 0 where
+pub record FreshState (s : State) : Type 0 where
   pub head-key : s .key head ≡ 0
   pub head-next : s .next head ≡ tail
   pub tail-key : s .key tail ≡ 65535
@@ -114,7 +114,7 @@ module _ (workers nodes : ℕ) (good : goodCounts workers nodes ≡ true) where
           ∙ copies-at (workerWords idleWorker) workers v k there inside
 
 -- so the fresh arena decodes to a fresh state
-pub fresh-state : (workers nodes : ℕ) → goodCounts workers nodes ≡ true → FreshState nodes (decode (freshWords workers nodes))
+pub fresh-state : (workers nodes : ℕ) → goodCounts workers nodes ≡ true → FreshState (decode (freshWords workers nodes))
 unfolding nodeAt freshNodes nodeWidth
 fresh-state workers nodes good =
     let known = counts workers nodes good in

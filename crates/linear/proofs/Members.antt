@@ -4,7 +4,6 @@ use mathlib.Core.Path.{_≡_, refl}
 use mathlib.Core.Logic.{_≢_, _↔_, Iff·trans}
 use mathlib.Core.List.{List}
 use mathlib.Core.Bool.{true}
-use native.Mathlib.Omega.{arith}
 use native.Mathlib.Decide.{ℕ-discrete}
 use Rattle.arena.specs.Layout.{nodesOf}
 use Rattle.linear.specs.Lists.{member}
@@ -30,7 +29,7 @@ run-chain {next} loops r = along (OnChain next) onward top r
 module _ {workers nodes : ℕ} {arena : List ℕ} (sound : Sound workers nodes arena) (inv : Inv nodes (decode arena)) where
   -- the chain is whole, since its keys rise to Tail
   whole : ChainWhole arena
-  whole = chain-whole arena (omega (arith, sound .nodes-are, inv .shape .cap)) rises (inv .shape .small)
+  whole = chain-whole arena rises (inv .shape .small)
     where
       rises : (n : ℕ) → OnChain (decode arena .next) n → n ≢ 1 →
           (decode arena .next n < nodesOf arena) × (decode arena .key n < decode arena .key (decode arena .next n))

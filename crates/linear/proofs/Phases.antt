@@ -334,7 +334,7 @@ module _ (r : Schedule) where
         go true e looks = rw (started, e) from-head
         go false e looks = absurd (omega arith)
 
-    pub begins : Phase begin
+    begins : Phase begin
     begins =
         runs
         (record {

@@ -269,12 +269,12 @@ ChainWhole arena = isNone (walkOf arena) ≡ false
 
 module _ (arena : List ℕ) where
   -- a chain whose keys rise to Tail is whole: each node has a key above the last, and keys are words, so 65,536 steps are enough
-  pub chain-whole : nodesOf arena ≤ 65535 →
+  pub chain-whole :
       ((n : ℕ) → OnChain (λ m. nodeIn arena m .next) n → n ≢ tail →
       (nodeIn arena n .next < nodesOf arena) × (nodeIn arena n .key < nodeIn arena (nodeIn arena n .next) .key)) →
       ((n : ℕ) → nodeIn arena n .key ≤ 65535) → ChainWhole arena
   unfolding chain
-  chain-whole few rises small =
+  chain-whole rises small =
       walk-whole (nodeWidth (layoutOf arena)) (nodePart arena) (nodesOf arena) rises small 65536 top (λ q. omega arith) (omega arith)
 
   -- the nodes that the walk finds

@@ -100,7 +100,7 @@ module _ (r : Schedule) where
   unfolding arenaAt
   empty key = absent-of r 0 key (λ i. none i (i .chain))
     where
-      fresh : FreshState (r .nodes) (state r 0)
+      fresh : FreshState (state r 0)
       fresh = fresh-state (r .workers) (r .nodes) (r .good)
 
       none : (i : In (state r 0) key) → Reach (state r 0 .next) 0 (i .node) → ⊥
