@@ -47,6 +47,7 @@ module _ (r : Schedule) where
     abbrev inv : Inv (r .nodes) (state r time)
     inv = always r time
 
+    -- the set is kept, gains the worker's key, or loses it
     pub has-kept : Keeps act → (key : ℕ) → has r (suc time) key ≡ has r time key
     has-kept keeps key =
         let both = keeps-set inv w step act keeps in
@@ -55,10 +56,7 @@ module _ (r : Schedule) where
     pub has-added : Adds act → (has r time (state r time .worker w .key) ≡ false)
         × ((key : ℕ) → has r (suc time) key
         ≡ (eqb key (state r time .worker w .key) || has r time key))
-    has-added adds =
-        let all = adds-key inv w step act adds in
-        let own = state r time .worker w .key in
-        (absent-of time own (all .0), λ key. by key (eqb key own) refl)
+    has-added adds = (absent-of time own (adds-key inv w step act adds .0), λ key. by key (eqb key own) refl)
       where
         own : ℕ
         own = state r time .worker w .key
@@ -110,7 +108,7 @@ module _ (r : Schedule) where
     where
       go : Happens r time →
           Ahead (state r (suc time)) from key ⊎ (has r (suc time) key ≡ false)
-      go (nothing s r f same) = inl (subst (λ arena. Ahead (decode arena) from key) (sym same) ahead)
+      go (nothing unstarted unreported unfinished same) = inl (subst (λ arena. Ahead (decode arena) from key) (sym same) ahead)
       go (start event idle call known next) =
           ahead-kept time (entry r time .worker)
           (startStep (entry r time .act) (entry r time .key)) (quiet (omega arith)) next live ahead

@@ -35,6 +35,13 @@ unfolding decides
 not-idle stage answer e idle = true≢false (sym (rw idle at e))
 
 module _ (r : Schedule) where
+  -- from a time to the next the set stays the same, or a call in order acts
+  abbrev Same : ℕ → Type 0
+  Same t = (key : ℕ) → has r (suc t) key ≡ has r t key
+
+  abbrev Acts : ℕ → Type 0
+  Acts t = (call : Call) × List·Memᴰ call (in-order-of r) × (call .point ≡ suc t) × (rank call ≡ 0)
+
   -- the call that a busy worker is at
   record Opened (now v : ℕ) : Type 0 where
     time : ℕ
@@ -104,11 +111,11 @@ module _ (r : Schedule) where
     update : state r t .worker v .operation ≢ contains
 
   same-or-changing : (t v : ℕ) (step : Step) (row : Row (r .nodes) (state r t) v step) → state r (suc t) ≡ stepped (state r t) v step →
-      ((key : ℕ) → has r (suc t) key ≡ has r t key) ⊎ Changing t v step row
+      Same t ⊎ Changing t v step row
   same-or-changing t v step row next = go (row .course)
     where
       go : Course (row .act) (step .worker) (step .report) →
-          ((key : ℕ) → has r (suc t) key ≡ has r t key) ⊎ Changing t v step row
+          Same t ⊎ Changing t v step row
       go (rests keeps idle) = inl (has-kept r t v step (row .act) next keeps)
       go (goes-on keeps continues same silent unfinished onward) = inl (has-kept r t v step (row .act) next keeps)
       go (ends keeps at idle done) = inl (has-kept r t v step (row .act) next keeps)
@@ -155,13 +162,12 @@ module _ (r : Schedule) where
         (o .busy (suc finish) (omega (arith, it .begun)) (omega arith)
         (subst (λ w. state r (suc finish) .worker w .stage ≡ 0) (o .own) rest))
 
-    changing-call : (call : Call) × List·Memᴰ call (in-order-of r) × (call .point ≡ suc t) × (rank call ≡ 0)
+    changing-call : Acts t
     changing-call =
         let here = decided-here (phase-at r (o .time) begun t (o .past)) in
         go (here .0) (here .1) (fate r (o .time) begun (omega (arith, o .past)))
       where
-        go : Decided r (o .time) begun t → entry r (o .time) .act ≢ contains → Fate r (o .time) begun →
-            (call : Call) × List·Memᴰ call (in-order-of r) × (call .point ≡ suc t) × (rank call ≡ 0)
+        go : Decided r (o .time) begun t → entry r (o .time) .act ≢ contains → Fate r (o .time) begun → Acts t
         go it update (waits e undecided) =
             absurd (true≢false (sym (it .decided) ∙ undecided (suc t) (omega (arith, it .begun)) (omega arith)))
         go it update (looked d finish point other in-time′ later asks denies absent low high e) = absurd (update asks)
@@ -183,15 +189,13 @@ module _ (r : Schedule) where
           Row (r .nodes) (state r t) (entry r t .worker) step →
           state r (suc t) ≡ stepped (state r t) (entry r t .worker) step →
           Opened t (entry r t .worker) →
-          ((key : ℕ) → has r (suc t) key ≡ has r t key)
-          ⊎ ((call : Call) × List·Memᴰ call (in-order-of r) × (call .point ≡ suc t) × (rank call ≡ 0))
+          Same t ⊎ Acts t
       by-turn step event row next o =
           let mine = subst (λ w. Row (r .nodes) (state r t) w step) (sym (o .own)) row in
           let onward = subst (λ w. state r (suc t) ≡ stepped (state r t) w step) (sym (o .own)) next in
           ⊎-elim inl (λ changing. inr (changing-call t in-time step o mine event onward changing)) (same-or-changing t _ step mine onward)
 
-      go : Happens r t → ((key : ℕ) → has r (suc t) key ≡ has r t key)
-          ⊎ ((call : Call) × List·Memᴰ call (in-order-of r) × (call .point ≡ suc t) × (rank call ≡ 0))
+      go : Happens r t → Same t ⊎ Acts t
       go (nothing unstarted unreported unfinished same) = inl (λ key. ap (λ arena. member key (setOf arena)) same)
       go (start event idle call known next) = inl (has-started r t (entry r t .worker) (entry r t .act)
           (entry r t .key) idle next)

@@ -53,6 +53,7 @@ module _ (r : Schedule) where
       later zero low high starting same = absurd (omega arith)
       later (suc time) low high starting same = (time, starting, omega arith, same)
 
+  -- so it is known what is told of it
   told-of : {call : Call} → List·Memᴰ call (calls-of r) → Told r call
   told-of m =
       let (time, starting, upto, same) = call-of m in
@@ -67,11 +68,12 @@ module _ (r : Schedule) where
   has-point : (call : Call) → hasPoint call ≡ true → call .point ≢ 0
   has-point call e none = true≢false (sym e ∙ rw none)
 
+  -- and it is placed rightly, in time
   placed-of : {call : Call} → Told r call → call .point ≢ 0 → Placed (has r) call × (call .point ≤ last r)
   placed-of (open-yet point finish) some = absurd (some point)
   placed-of (pointed point low high later placed) some = (placed, high)
 
-  -- calls with points, two by two
+  -- two calls that act at one time have no point at all
   abbrev Differ : Call → Call → Type 0
   Differ a b = a .point ≡ b .point → (rank a ≡ 0) × (rank b ≡ 0) → a .point ≡ 0
 
@@ -87,6 +89,7 @@ module _ (r : Schedule) where
       let c = begun-at r t q in
       own-points r s t b c (omega arith) (fate r s b (omega arith)) (fate r t c (omega arith))
 
+  -- so the calls in order are in order, and no two act at one time
   ordered : Pairs (λ a b. Before a b × Apart a b) (in-order-of r)
   unfolding inOrder calls
   ordered =
@@ -105,8 +108,9 @@ module _ (r : Schedule) where
 
       none : (i : In (state r 0) key) → Reach (state r 0 .next) 0 (i .node) → ⊥
       none i (here e) = i .not-head (sym e)
-      none i (on r) = i .not-tail (stuck (fresh .tail-next) (fresh .head-next) r)
+      none i (on run) = i .not-tail (stuck (fresh .tail-next) (fresh .head-next) run)
 
+  -- all of demand 3, of one schedule
   proved : Linearizable (r .workers) (r .nodes) (r .entries)
   proved =
       let whole = simulated (has r) (last r) (in-order-of r) empty ordered
