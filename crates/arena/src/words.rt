@@ -20,7 +20,7 @@ pub fn put(words: &mut [u16], at: usize, value: u16)
 }
 
 // The values from a place on.
-pub(crate) fn write(words: &mut [u16], at: usize, values: &[u16])
+pub fn write(words: &mut [u16], at: usize, values: &[u16])
     ensures { λ _. ⌜ now (words .exit) ≡ sets (now (words .entry)) at (now (values .entry)) ⌝ }
 {
     if words.len() <= at {

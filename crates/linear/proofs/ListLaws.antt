@@ -135,7 +135,7 @@ pairs-map f {R} (_ahead_ {x} {xs} each pairs) =
     values ahead pairs-map f pairs
 
 -- times rise, so what holds of every earlier and later one of the times that pass a test holds of every two of them
-pairs-times : (test : ℕ → Bool) (R : ℕ → ℕ → Type 0) (time left : ℕ) →
+pub pairs-times : (test : ℕ → Bool) (R : ℕ → ℕ → Type 0) (time left : ℕ) →
     ((s t : ℕ) → time ≤ s → s < t → t < time + left → test s ≡ true → test t ≡ true → R s t) →
     Pairs R (filter test (timesFrom time left))
 unfolding filter timesFrom

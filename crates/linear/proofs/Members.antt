@@ -28,7 +28,7 @@ run-chain {next} loops r = along (OnChain next) onward top r
 
 module _ {workers nodes : ℕ} {arena : List ℕ} (sound : Sound workers nodes arena) (inv : Inv nodes (decode arena)) where
   -- the chain is whole, since its keys rise to Tail
-  whole : ChainWhole arena
+  pub whole : ChainWhole arena
   whole = chain-whole arena rises (inv .shape .small)
     where
       rises : (n : ℕ) → OnChain (decode arena .next) n → n ≢ 1 →

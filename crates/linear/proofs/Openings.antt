@@ -30,7 +30,7 @@ use Rattle.linear.proofs.Points.{waits, acted, looked, Fate, fate}
 use Rattle.linear.proofs.Calls.{decided-once}
 
 -- no turn at 0 decides
-not-idle : (stage answer : ℕ) → decides stage answer ≡ true → stage ≢ 0
+pub not-idle : (stage answer : ℕ) → decides stage answer ≡ true → stage ≢ 0
 unfolding decides
 not-idle stage answer e idle = true≢false (sym (rw idle at e))
 
@@ -43,14 +43,14 @@ module _ (r : Schedule) where
   Acts t = (call : Call) × List·Memᴰ call (in-order-of r) × (call .point ≡ suc t) × (rank call ≡ 0)
 
   -- the call that a busy worker is at
-  record Opened (now v : ℕ) : Type 0 where
-    time : ℕ
-    starting : starts-at r (suc time) ≡ true
-    own : entry r time .worker ≡ v
-    past : suc time ≤ now
-    busy : (t : ℕ) → suc time ≤ t → t ≤ now → state r t .worker v .stage ≢ 0
+  pub record Opened (now v : ℕ) : Type 0 where
+    pub time : ℕ
+    pub starting : starts-at r (suc time) ≡ true
+    pub own : entry r time .worker ≡ v
+    pub past : suc time ≤ now
+    pub busy : (t : ℕ) → suc time ≤ t → t ≤ now → state r t .worker v .stage ≢ 0
 
-  opened : (now v : ℕ) → state r now .worker v .stage ≢ 0 → Opened now v
+  pub opened : (now v : ℕ) → state r now .worker v .stage ≢ 0 → Opened now v
   unfolding arenaAt
   opened zero v busy = absurd (busy (ap (λ (w : Worker). w .stage) (fresh-state (r .workers) (r .nodes) (r .good) .idle v)))
   opened (suc now) v busy =

@@ -63,13 +63,13 @@ module _ (r : Schedule) where
   longer a = record { time = a .time; begun = a .begun; past = omega (arith, a .past); absent = a .absent }
 
   -- an entry that is no turn of a worker decides and finishes nothing of its call
-  not-decided : (v now : ℕ) → (isReported (outcome r now) ≡ false) ⊎ (entry r now .worker ≢ v) →
+  pub not-decided : (v now : ℕ) → (isReported (outcome r now) ≡ false) ⊎ (entry r now .worker ≢ v) →
       decisive r v (suc now) ≡ false
   unfolding decidesAt
   not-decided v now (inl e) = rw e
   not-decided v now (inr d) = rw (ne-eqb (entry r now .worker) v d, and-false)
 
-  not-finished : (v now : ℕ) → (isFinished (outcome r now) ≡ false) ⊎ (entry r now .worker ≢ v) →
+  pub not-finished : (v now : ℕ) → (isFinished (outcome r now) ≡ false) ⊎ (entry r now .worker ≢ v) →
       finishing r v (suc now) ≡ false
   unfolding finishesAt
   not-finished v now (inl e) = ap (λ t. t && eqb (entry r now .worker) v) e

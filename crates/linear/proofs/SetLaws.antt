@@ -5,7 +5,7 @@ use mathlib.Core.Logic.{_≢_, _↔_, ⊎-elim}
 use mathlib.Core.List.{List, [], _∷_, List·Memᴰ, List·Memᴰ·head, List·Memᴰ·tail, List·Memᴰ·not-nil, List·Memᴰ·cases-cons, Memᴰ·cast}
 use mathlib.Core.Bool.{Bool, true, false, not, _&&_, _||_, and-false, true≢false}
 use mathlib.Core.Option.{Option, none, some, Option·map, Option·getD, Option·none-ne-some}
-use mathlib.Mathlib.Data.Bool.Basic.{dichotomy, or-inl, or-inr, and-elim-right}
+use mathlib.Mathlib.Data.Bool.Basic.{dichotomy, or-inl, or-inr, and-elim-left, and-elim-right}
 use mathlib.Mathlib.Data.Bool.Basic.{eq-false-eq-not-eq-true, or-eq-false-eq-eq-false-and-eq-false}
 use native.Mathlib.Omega.{arith}
 use native.Mathlib.Decide.{ℕ-discrete}
@@ -31,7 +31,7 @@ unfolding member
 in-member {key} (List·Memᴰ·head {x = other} same) = or-inl (eqb key other) _ (eq-eqb key other same)
 in-member {key} (List·Memᴰ·tail {x = other} m) = or-inr (eqb key other) _ (in-member m)
 
-from-member : (key : ℕ) (keys : List ℕ) → member key keys ≡ true → List·Memᴰ key keys
+pub from-member : (key : ℕ) (keys : List ℕ) → member key keys ≡ true → List·Memᴰ key keys
 unfolding member
 from-member key [] e = let z : _≡_ {A = ℕ} 0 1 = cc in absurd (omega arith)
 from-member key (other ∷ keys) e =
@@ -151,44 +151,49 @@ excluding-filter key (first ∷ keys) =
 pub excluding-rises : (key : ℕ) (keys : List ℕ) → Rising keys → Rising (excluding key keys)
 excluding-rises key keys r = rw excluding-filter (pairs-filter (λ other. not (eqb key other)) r)
 
--- nodes that links lead through from one node up to Tail, each with a key above the last
-data Walked (key next : ℕ → ℕ) : ℕ → ℕ → List ℕ → Type 0 where
-  ended : {last node : ℕ} → node ≡ tail → Walked key next last node []
-  passed : {last node : ℕ} {nodes : List ℕ} → node ≢ tail → last < key node →
-      Walked key next (key node) (next node) nodes → Walked key next last node (node ∷ nodes)
+-- nodes below a count that links lead through from one node up to Tail, each with a key above the last
+pub data Walked (count : ℕ) (key next : ℕ → ℕ) : ℕ → ℕ → List ℕ → Type 0 where
+  ended : {last node : ℕ} → node ≡ tail → Walked count key next last node []
+  passed : {last node : ℕ} {nodes : List ℕ} → node ≢ tail → node < count → last < key node →
+      Walked count key next (key node) (next node) nodes → Walked count key next last node (node ∷ nodes)
 
-module _ {key next : ℕ → ℕ} where
+module _ {count : ℕ} {key next : ℕ → ℕ} where
   -- each has a key above the last, and not only above the one before it
-  walked-above : {last node n : ℕ} {nodes : List ℕ} → Walked key next last node nodes → List·Memᴰ n nodes → last < key n
+  pub walked-above : {last node n : ℕ} {nodes : List ℕ} → Walked count key next last node nodes → List·Memᴰ n nodes → last < key n
   walked-above (ended e) m = absurd (List·Memᴰ·not-nil m)
-  walked-above (passed h above onward) m =
+  walked-above (passed h low above onward) m =
       ⊎-elim (λ same. rw same above) (λ there. omega (arith, walked-above onward there)) (List·Memᴰ·cases-cons m)
 
-  walked-rises : {last node : ℕ} {nodes : List ℕ} → Walked key next last node nodes → Pairs (λ a b. key a < key b) nodes
+  pub walked-inside : {last node n : ℕ} {nodes : List ℕ} → Walked count key next last node nodes → List·Memᴰ n nodes → n < count
+  walked-inside (ended e) m = absurd (List·Memᴰ·not-nil m)
+  walked-inside (passed h low above onward) m =
+      ⊎-elim (λ same. rw same low) (λ there. walked-inside onward there) (List·Memᴰ·cases-cons m)
+
+  pub walked-rises : {last node : ℕ} {nodes : List ℕ} → Walked count key next last node nodes → Pairs (λ a b. key a < key b) nodes
   walked-rises (ended e) = alone
-  walked-rises (passed {nodes} h above onward) = each-of nodes (λ n m. walked-above onward m) ahead walked-rises onward
+  walked-rises (passed {nodes} h low above onward) = each-of nodes (λ n m. walked-above onward m) ahead walked-rises onward
 
   -- each is on the chain, and is not Tail
-  walked-on : {last node n : ℕ} {nodes : List ℕ} → OnChain next node → Walked key next last node nodes → List·Memᴰ n nodes →
+  walked-on : {last node n : ℕ} {nodes : List ℕ} → OnChain next node → Walked count key next last node nodes → List·Memᴰ n nodes →
       OnChain next n × (n ≢ tail)
   walked-on on (ended e) m = absurd (List·Memᴰ·not-nil m)
-  walked-on on (passed h above onward) m =
+  walked-on on (passed h low above onward) m =
       ⊎-elim (λ same. rw same (on, h)) (λ there. walked-on (link on h) onward there) (List·Memᴰ·cases-cons m)
 
   -- the first is one of them, and so is what follows one of them, if it is not Tail
-  walked-first : {last node : ℕ} {nodes : List ℕ} → Walked key next last node nodes → node ≢ tail → List·Memᴰ node nodes
+  walked-first : {last node : ℕ} {nodes : List ℕ} → Walked count key next last node nodes → node ≢ tail → List·Memᴰ node nodes
   walked-first (ended e) h = absurd (h e)
-  walked-first (passed k above onward) h = List·Memᴰ·head refl
+  walked-first (passed k low above onward) h = List·Memᴰ·head refl
 
-  walked-next : {last node n : ℕ} {nodes : List ℕ} → Walked key next last node nodes → List·Memᴰ n nodes → next n ≢ tail →
+  walked-next : {last node n : ℕ} {nodes : List ℕ} → Walked count key next last node nodes → List·Memᴰ n nodes → next n ≢ tail →
       List·Memᴰ (next n) nodes
   walked-next (ended e) m h = absurd (List·Memᴰ·not-nil m)
-  walked-next (passed k above onward) m h =
+  walked-next (passed k low above onward) m h =
       List·Memᴰ·tail
       (⊎-elim (λ same. rw same (walked-first onward (rw same at h))) (λ there. walked-next onward there h) (List·Memᴰ·cases-cons m))
 
   -- so the nodes from Head's next on are all those of the chain but Head and Tail
-  on-walked : {last n : ℕ} {nodes : List ℕ} → Walked key next last (next head) nodes → OnChain next n → n ≢ head → n ≢ tail →
+  on-walked : {last n : ℕ} {nodes : List ℕ} → Walked count key next last (next head) nodes → OnChain next n → n ≢ head → n ≢ tail →
       List·Memᴰ n nodes
   on-walked walked top h t = absurd (h refl)
   on-walked walked (link {node} on k) h t =
@@ -217,7 +222,7 @@ or-empty (some nodes) empty holds = holds nodes refl
 module _ (width : ℕ) (words : List ℕ) (count : ℕ) where
   -- a walk that comes to an end passes such nodes
   walk-walked : (steps last node : ℕ) (nodes : List ℕ) → walk width words count steps last node ≡ some nodes →
-      Walked (keyAt width words) (nextAt width words) last node nodes
+      Walked count (keyAt width words) (nextAt width words) last node nodes
   unfolding walk
   walk-walked zero last node nodes e = absurd (Option·none-ne-some nodes e)
   walk-walked (suc steps) last node nodes e =
@@ -229,7 +234,7 @@ module _ (width : ℕ) (words : List ℕ) (count : ℕ) where
             (λ goes.
             let onward = mapped-some node _ (rw goes at found) in
             rw (onward .2)
-            (passed q (ltb-true _ _ (and-elim-right (ltb node count) _ goes))
+            (passed q (ltb-true _ _ (and-elim-left (ltb node count) _ goes)) (ltb-true _ _ (and-elim-right (ltb node count) _ goes))
             (walk-walked steps (keyAt width words node) (nextAt width words node) (onward .0) (onward .1))))
             (dichotomy (ltb node count && ltb last (keyAt width words node)))
       ]
@@ -254,10 +259,10 @@ module _ (width : ℕ) (words : List ℕ) (count : ℕ) where
         ]
 
 -- a node's key and next, and the walk from Head, of an arena
-abbrev keyOf : List ℕ → ℕ → ℕ
+abbrev pub keyOf : List ℕ → ℕ → ℕ
 keyOf arena node = nodeIn arena node .key
 
-abbrev nextOf : List ℕ → ℕ → ℕ
+abbrev pub nextOf : List ℕ → ℕ → ℕ
 nextOf arena node = nodeIn arena node .next
 
 abbrev pub walkOf : List ℕ → Option (List ℕ)
@@ -279,12 +284,12 @@ module _ (arena : List ℕ) where
 
   -- the nodes that the walk finds
   found-walked : (nodes : List ℕ) → walkOf arena ≡ some nodes →
-      Walked (keyOf arena) (nextOf arena) (keyOf arena head) (nextOf arena head) nodes
+      Walked (nodesOf arena) (keyOf arena) (nextOf arena) (keyOf arena head) (nextOf arena head) nodes
   unfolding chain
   found-walked =
       walk-walked (nodeWidth (layoutOf arena)) (nodePart arena) (nodesOf arena) 65536 (keyOf arena head) (nextOf arena head)
 
-  whole-walked : ChainWhole arena → Walked (keyOf arena) (nextOf arena) (keyOf arena head) (nextOf arena head) (chainOf arena)
+  pub whole-walked : ChainWhole arena → Walked (nodesOf arena) (keyOf arena) (nextOf arena) (keyOf arena head) (nextOf arena head) (chainOf arena)
   unfolding chainOf
   whole-walked whole = or-empty (walkOf arena) (λ broken. absurd (true≢false (sym broken ∙ whole))) found-walked
 

@@ -8,6 +8,7 @@ use native.Mathlib.Numerals.{sub-one}
 use lib.ListN.{length}
 use borrow.Author.Tests.{lt-ltb, le-ltb}
 use Rattle.worker.specs.Worker.{isCall, idleWorker}
+use Rattle.worker.specs.declared.report.Report.{Report}
 use Rattle.worker.specs.declared.report.Step.{Step}
 use Rattle.worker.proofs.TurnLaws.{step-row}
 use Rattle.arena.specs.Layout.{goodCounts}
@@ -100,7 +101,7 @@ module _ (r : Schedule) where
   pub own-worker : (time v : ℕ) → v < r .workers → state time .worker v ≡ workerAt (arena time) v
   own-worker time v known = rw (sound time .workers-are, lt-ltb v (r .workers) known)
 
-  outcome-is : (time : ℕ) → outcome time ≡ eventOf (arena time) (entry time)
+  pub outcome-is : (time : ℕ) → outcome time ≡ eventOf (arena time) (entry time)
   unfolding eventAt
   outcome-is time = rw sub-one
 
@@ -139,6 +140,7 @@ module _ (r : Schedule) where
 
   -- the entry after a time starts a call
   pub record Begun (time : ℕ) : Type 0 where
+    pub starting : starts-at (suc time) ≡ true
     pub known : entry time .worker < r .workers
     pub idle : state time .worker (entry time .worker) .stage ≡ 0
     pub next : state (suc time) ≡ stepped (state time) (entry time .worker)
@@ -149,5 +151,26 @@ module _ (r : Schedule) where
     where
       go : Happens time → Begun time
       go (nothing unstarted unreported unfinished same) = absurd (true≢false (sym e ∙ unstarted))
-      go (start event idle call known next) = record { known = known; idle = idle; next = next }
+      go (start event idle call known next) = record { starting = e; known = known; idle = idle; next = next }
       go (turn step event row rest next) = absurd (true≢false (sym e ∙ ap isStarted event))
+
+  -- a turn that reports is one of a worker that there is, and an idle worker's does not finish
+  pub turn-known : (time : ℕ) {report : Report} → outcome time ≡ turnReported report → entry time .worker < r .workers
+  turn-known time {report} event = go (entered-at time (entry time) (always time))
+    where
+      go : Entered (r .workers) (r .nodes) (arena time) (entry time) → entry time .worker < r .workers
+      go (refuses number is same known) =
+          absurd (true≢false (sym (ap isReported (sym (outcome-is time ∙ is) ∙ event))))
+      go (starts is turning known idle call next) = known
+      go (turns is turning known next) = known
+
+  pub idle-unfinished : (time : ℕ) → state time .worker (entry time .worker) .stage ≡ 0 → isFinished (outcome time) ≡ false
+  idle-unfinished time idle = go (entered-at time (entry time) (always time))
+    where
+      go : Entered (r .workers) (r .nodes) (arena time) (entry time) → isFinished (outcome time) ≡ false
+      go (refuses number is same known) = ap isFinished (outcome-is time ∙ is)
+      go (starts is turning known idle call next) = ap isFinished (outcome-is time ∙ is)
+      go (turns is turning known next) =
+          ap isFinished (outcome-is time ∙ is)
+          ∙ ap (λ (step : Step). isFinished (turnReported (step .report)))
+          (step-row (state time .worker (entry time .worker)) _ _ idle)
