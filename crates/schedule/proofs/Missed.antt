@@ -1,0 +1,192 @@
+-- What a turn does to the set, told by whether it takes a key out, and the first time at which a key is absent.
+use Prim.Native.Nat.{ℕ, zero, suc, _+_, _-_, _≤_, _<_}
+use mathlib.Core.Path.{_≡_, refl, sym, ap, subst, _∙_}
+use mathlib.Core.Logic.{_≢_, inl, inr, ⊎-elim}
+use mathlib.Core.List.{List}
+use mathlib.Core.Bool.{Bool, true, false, cond, not, _&&_, and-false}
+use mathlib.Mathlib.Data.Bool.Basic.{dichotomy, or-inr}
+use native.Mathlib.Omega.{arith}
+use native.Mathlib.Decide.{ℕ-discrete}
+use lib.ListN.{length, getD, set, length-set}
+use lib.Seq.{getD-set-same, getD-set-other}
+use lib.Dec.{eqb}
+use borrow.Author.Tests.{eq-eqb, ne-eqb}
+use Rattle.worker.specs.Worker.{remove}
+use Rattle.worker.specs.Report.{answerNumber}
+use Rattle.worker.specs.declared.Worker.{Worker}
+use Rattle.worker.specs.declared.report.Answer.the-variants.{Yes}
+use Rattle.worker.specs.declared.report.Step.{Step}
+use Rattle.arena.specs.Records.{workerAt}
+use Rattle.linear.specs.Lists.{first}
+use Rattle.linear.specs.Entries.{turnReported}
+use Rattle.linear.specs.History.{decides, absentAt}
+use Rattle.linear.proofs.ListLaws.{first-found}
+use Rattle.linear.proofs.State.{State, stepped}
+use Rattle.linear.proofs.After.{own-after}
+use Rattle.linear.proofs.Course.{Row, goes-in, goes-out, present, missing, late, Course, rests, goes-on, settles, ends}
+use Rattle.linear.proofs.Keys.{has-kept, has-added, has-taken}
+use Rattle.linear.proofs.Timeline.{Schedule, has, arena, state, entry, outcome, own-worker, turn-known, always}
+use Rattle.schedule.specs.Book.{looksUp, missed, takesOut}
+use Rattle.schedule.proofs.Times.{first-kept, first-same, first-now}
+
+-- a word that may have been written, at another place and at its own
+length-either : (test : Bool) (words : List ℕ) (v time : ℕ) → length (cond test (set words v time) words) ≡ length words
+length-either true words v time = length-set words v time
+length-either false words v time = refl
+
+elsewhere : (test : Bool) (words : List ℕ) (u v time : ℕ) → u ≢ v → getD (cond test (set words v time) words) u 0 ≡ getD words u 0
+elsewhere true words u v time other = getD-set-other words v u time 0 other
+elsewhere false words u v time other = refl
+
+right-here : (test : Bool) (words : List ℕ) (v time : ℕ) → v < length words →
+    getD (cond test (set words v time) words) v 0 ≡ cond test time (getD words v 0)
+right-here true words v time there = getD-set-same words v time 0 there
+right-here false words v time there = refl
+
+-- the time that a worker has after a key left the set
+module _ (worker : ℕ → Worker) (key time : ℕ) (absent : List ℕ) where
+  -- the test of a worker, after those before it
+  abbrev misses : ℕ → Bool
+  misses v = looksUp (worker v) key && eqb (getD (missed worker v key time absent) v 0) 0
+
+  pub missed-length : (workers : ℕ) → length (missed worker workers key time absent) ≡ length absent
+  unfolding missed
+  missed-length zero = refl
+  missed-length (suc v) = length-either (misses v) (missed worker v key time absent) v time ∙ missed-length v
+
+  missed-past : (workers u : ℕ) → workers ≤ u → getD (missed worker workers key time absent) u 0 ≡ getD absent u 0
+  unfolding missed
+  missed-past zero u past = refl
+  missed-past (suc v) u past = elsewhere (misses v) (missed worker v key time absent) u v time (omega arith) ∙ missed-past v u (omega arith)
+
+  pub missed-at : (workers u : ℕ) → u < workers → u < length absent →
+      getD (missed worker workers key time absent) u 0
+      ≡ cond (looksUp (worker u) key && eqb (getD absent u 0) 0) time (getD absent u 0)
+  unfolding missed
+  missed-at zero u there inside = absurd (omega arith)
+  missed-at (suc v) u there inside =
+      elim (ℕ-discrete u v) [
+        | yes e ↦
+            rw e
+            (right-here (misses v) (missed worker v key time absent) v time (omega (arith, missed-length v))
+            ∙ rw (missed-past v v (omega arith)))
+        | no d ↦ elsewhere (misses v) (missed worker v key time absent) u v time d ∙ missed-at v u (omega arith) inside
+      ]
+
+-- no key is taken out by a turn that decides nothing, of another operation than remove, or with another answer than yes
+module _ (before after : Worker) where
+  undecided : decides (before .stage) (after .answer) ≡ false → takesOut before after ≡ false
+  undecided e = rw e
+
+  no-remove : before .operation ≢ remove → takesOut before after ≡ false
+  no-remove other = rw (ne-eqb (before .operation) remove other, and-false)
+
+  no-yes : after .answer ≢ answerNumber Yes → takesOut before after ≡ false
+  no-yes other = rw (ne-eqb (after .answer) (answerNumber Yes) other, and-false)
+
+  at-stage : {stage : ℕ} → before .stage ≡ stage → decides stage (after .answer) ≡ false → takesOut before after ≡ false
+  at-stage e fails = undecided (rw e fails)
+
+module _ (r : Schedule) where
+  -- a turn keeps what is in the set, and takes out the worker's key where it takes one out
+  pub data Change (now : ℕ) (before after : Worker) : Type 0 where
+    stays : takesOut before after ≡ false → ((key : ℕ) → has r now key ≡ true → has r (suc now) key ≡ true) → Change now before after
+    leaves : takesOut before after ≡ true →
+        ((key : ℕ) → has r (suc now) key ≡ (not (eqb key (before .key)) && has r now key)) → Change now before after
+
+  change : (now w : ℕ) (step : Step) (row : Row (r .nodes) (state r now) w step) → state r (suc now) ≡ stepped (state r now) w step →
+      Change now (state r now .worker w) (step .worker)
+  unfolding decides
+  change now w step row next = go (row .course)
+    where
+      before : Worker
+      before = state r now .worker w
+
+      same : takesOut before (step .worker) ≡ false → ((key : ℕ) → has r (suc now) key ≡ has r now key) →
+          Change now before (step .worker)
+      same none kept = stays none (λ key there. kept key ∙ there)
+
+      go : Course (row .act) (step .worker) (step .report) → Change now before (step .worker)
+      go (rests keeps idle) = same (at-stage before (step .worker) idle refl) (has-kept r now w step (row .act) next keeps)
+      go (goes-on keeps continues answer silent unfinished onward) =
+          same (undecided before (step .worker) silent) (has-kept r now w step (row .act) next keeps)
+      go (ends keeps stage idle done) = same (at-stage before (step .worker) stage refl) (has-kept r now w step (row .act) next keeps)
+      go (settles (present keeps inside (inl is)) continues none answer settled unfinished) =
+          same (no-remove before (step .worker) (omega (arith, is .0))) (has-kept r now w step (row .act) next keeps)
+      go (settles (present keeps inside (inr is)) continues none answer settled unfinished) =
+          same (no-remove before (step .worker) (omega (arith, is .0))) (has-kept r now w step (row .act) next keeps)
+      go (settles (missing keeps out (inl is)) continues none answer settled unfinished) =
+          same (no-remove before (step .worker) (omega (arith, is .0))) (has-kept r now w step (row .act) next keeps)
+      go (settles (missing keeps out (inr is)) continues none answer settled unfinished) =
+          same (no-yes before (step .worker) (omega (arith, is .1))) (has-kept r now w step (row .act) next keeps)
+      go (settles (late keeps asks denies stage out) continues none answer settled unfinished) =
+          same (no-remove before (step .worker) (omega (arith, asks))) (has-kept r now w step (row .act) next keeps)
+      go (settles (goes-in it operation is) continues none answer settled unfinished) =
+          stays (no-remove before (step .worker) (omega (arith, operation)))
+          (λ key there. has-added r now w step (row .act) next it .1 key ∙ or-inr (eqb key (before .key)) _ there)
+      go (settles (goes-out it operation is) continues none answer settled unfinished) =
+          leaves (rw (settled, eq-eqb _ _ operation, eq-eqb _ _ is)) (has-taken r now w step (row .act) next it .1)
+
+  -- the same of the records in the arenas
+  pub turn-change : (now : ℕ) (step : Step) → outcome r now ≡ turnReported (step .report) →
+      Row (r .nodes) (state r now) (entry r now .worker) step →
+      state r (suc now) ≡ stepped (state r now) (entry r now .worker) step →
+      Change now (workerAt (arena r now) (entry r now .worker)) (workerAt (arena r (suc now)) (entry r now .worker))
+  turn-change now step event row next =
+      let w = entry r now .worker in
+      let known = turn-known r now event in
+      subst (λ old. Change now old (workerAt (arena r (suc now)) w)) (own-worker r now w known)
+      (subst (Change now (state r now .worker w))
+      (sym (ap (λ (s : State). s .worker w) next ∙ own-after (always r now) w (row .act) (row .placed))
+      ∙ own-worker r (suc now) w known)
+      (change now w step row next))
+
+  -- the first time from a start on, up to now, at which a key is absent
+  abbrev pub absentBy : ℕ → ℕ → ℕ → ℕ
+  absentBy key start now = first (absentAt (r .workers) (r .nodes) (r .entries) key) start (suc now - start)
+
+  module _ (key start now : ℕ) (some : start ≢ 0) (begun : start ≤ now) where
+    more : suc (suc now) - start ≡ suc (suc now - start)
+    more = omega arith
+
+    place : start + (suc now - start) ≡ suc now
+    place = omega arith
+
+    pub absent-kept : absentBy key start now ≢ 0 → absentBy key start (suc now) ≡ absentBy key start now
+    absent-kept found = rw more (first-kept _ start (suc now - start) some found)
+
+    absent-same : has r (suc now) key ≡ true → absentBy key start (suc now) ≡ absentBy key start now
+    unfolding absentAt
+    absent-same there = rw more (first-same _ start (suc now - start) some (rw (place, there)))
+
+    pub absent-now : absentBy key start now ≡ 0 → has r (suc now) key ≡ false → absentBy key start (suc now) ≡ suc now
+    unfolding absentAt
+    absent-now none gone = rw more (first-now _ start (suc now - start) some none (rw (place, gone))) ∙ place
+
+    -- a key that was absent at no time is there now
+    present-now : absentBy key start now ≡ 0 → has r now key ≡ true
+    unfolding absentAt
+    present-now none =
+        ⊎-elim
+        (λ gone.
+        let found = first-found (absentAt (r .workers) (r .nodes) (r .entries) key) start (suc now - start) {some = now} begun
+        (omega arith) (rw gone) in
+        absurd (omega (arith, found .1)))
+        (λ there. there) (dichotomy (has r now key))
+
+    -- so where what is in the set stays there, the time stays
+    pub absent-stays : (has r now key ≡ true → has r (suc now) key ≡ true) → absentBy key start (suc now) ≡ absentBy key start now
+    absent-stays kept =
+        elim (ℕ-discrete (absentBy key start now) 0) [
+          | yes none ↦ absent-same (kept (present-now none))
+          | no found ↦ absent-kept found
+        ]
+
+  -- at the start alone
+  pub absent-first : (key start : ℕ) → absentBy key start start ≡ cond (has r start key) 0 start
+  unfolding first absentAt
+  absent-first key start = let one : suc start - start ≡ 1 = omega arith in rw one (go (has r start key))
+    where
+      go : (there : Bool) → cond (not there) start 0 ≡ cond there 0 start
+      go true = refl
+      go false = refl

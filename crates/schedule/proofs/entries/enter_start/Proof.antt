@@ -1,0 +1,53 @@
+-- What the start answers decides the definitions.
+use mathlib.Core.Path.{sym, ap, _∙_}
+use denote.Ref.{now}
+use borrow.Author.Needs.{needs}
+use Rattle.arena.specs.Replies.{verdictReply}
+use Rattle.schedule.proofs.BookLaws.{start-arena, after-refused-start, after-start}
+use Rattle.schedule.proofs.entries.enter_start.Statement.{statement}
+use Rattle.schedule.proofs.entries.enter_start.Tie as tie
+
+looks : tie.Need-absent-from-requires
+looks c κs =
+    let answered = c .before .before .before .before .before .before .before .before .before .before in
+    let begin = answered .before .before .before .before in
+    let args = begin .args in
+    let here = answered .start .ensures .1 ∙ start-arena (now (args .arena)) (args .worker) (args .act) (args .key) (begin .pre .0) in
+    (rw here (begin .pre .1 .1 .0), rw here (begin .pre .1 .1 .1))
+
+refused : tie.Need-returns
+refused c =
+    let start = c .before .before .before .before .before .start in
+    let args = c .before .before .before .before .before .before .before .before .before .args in
+    let act = c .before .before .before .before .before .before .before .before .before .pre .0 in
+    let told = sym (ap verdictReply (c .before .enum-told .given .1)) ∙ start .ensures .0 in
+    let after = after-refused-start (now (args .arena)) (args .worker) (args .time) (args .book) (now (args .history)) (args .act)
+    (args .key) act told in (
+      start .ensures .1 ∙ start-arena (now (args .arena)) (args .worker) (args .act) (args .key) act,
+      (after .1, c .refuse .ensures ∙ after .0),
+    )
+
+accepted : tie.Need-returns-2
+accepted c =
+    let answer = c .before .before .before .before .before .before .before .before in
+    let start = answer .before .before .before .before .start in
+    let begin = answer .before .before .before .before .before .before .before .before in
+    let args = begin .args in
+    let act = begin .pre .0 in
+    let told = sym (ap verdictReply (answer .enum-told2 .given .1)) ∙ start .ensures .0 in
+    let here = start .ensures .1 ∙ start-arena (now (args .arena)) (args .worker) (args .act) (args .key) act in
+    let after = after-start (now (args .arena)) (args .worker) (args .time) (args .book) (now (args .history)) (args .act) (args .key)
+    act told in
+    let write = c .before .before .before .before .before in (
+      here,
+      (
+        rw (write .write-call .ensures, write .before .new .ensures) (after .1),
+        rw (c .start2 .ensures, c .before .absent-from .ensures, here) (after .0),
+      ),
+    )
+
+pub enter-start-spec : {M : Type 1} → statement M
+enter-start-spec =
+    tie.close
+    (tie.spec (search needs) (search needs) (search needs) (search needs) (search needs) (search needs) looks (search needs) (search needs)
+    refused (search needs) (search needs) accepted)

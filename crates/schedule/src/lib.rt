@@ -1,0 +1,118 @@
+// The run of a schedule on plain numbers: an arena in lent words, and the history in lent words, seven to a call.
+ghost use mathlib.Core.Path.{_≡_};
+ghost use mathlib.Core.List.{_++_};
+ghost use mathlib.Core.Bool.{true};
+ghost use Prim.Native.Nat.{_*_, _/_, _%_, _≤_};
+ghost use lib.ListN.{length, drop};
+ghost use Rattle.arena.specs.Layout.{layoutNumber, goodCounts, total};
+ghost use Rattle.linear.specs.History.{totals, arenaAt};
+ghost use Rattle.schedule.specs.Run.{entryWidth, entriesOf, operationsIn, callWidth, flatWords, recordsOf, totalsOf};
+ghost use Rattle.schedule.specs.Run.{summaryReply, runAnswer, runArena, runWords, DoneLinearizable};
+use arena::Verdict;
+use arena::layout;
+use book::Book;
+
+mod book;
+pub mod calls;
+mod entries;
+mod present;
+mod verdict;
+
+// A call's record in a history; 0 stands for a point or finish not reached, and for the answer of a call without a point.
+pub struct Call {
+    pub worker: u16,
+    pub operation: u16,
+    pub key: u16,
+    pub start: u16,
+    pub point: u16,
+    pub finish: u16,
+    pub answer: u16,
+}
+
+pub struct Totals {
+    pub entries: u16,
+    pub refused: u16,
+    pub waits: u16,
+    pub calls: u16,
+}
+
+// What a run answers.
+pub enum Summary {
+    Done(Totals),
+    Refused(u16),
+}
+
+// Runs a schedule on an arena that it lays itself.
+pub fn run(
+    arena: &mut [u16],
+    workers: u16,
+    nodes: u16,
+    schedule: &[u16],
+    history: &mut [u16],
+) -> Summary
+    ensures answer { λ r. ⌜ summaryReply r
+        ≡ runAnswer (now (arena .entry)) workers nodes (now (schedule .entry)) (length (now (history .entry)) / callWidth) ⌝ }
+    ensures words { λ _. ⌜ now (arena .exit)
+        ≡ runArena (now (arena .entry)) workers nodes (now (schedule .entry)) (length (now (history .entry)) / callWidth) ⌝ }
+    ensures calls { λ _. ⌜ now (history .exit)
+        ≡ runWords (now (arena .entry)) workers nodes (now (schedule .entry)) (now (history .entry)) ⌝ }
+    ensures linearizable { λ r. ⌜ DoneLinearizable r workers nodes (now (schedule .entry)) ⌝ }
+{
+    let verdict = verdict::run_verdict(
+        arena,
+        workers,
+        nodes,
+        schedule,
+        history.len() / calls::WIDTH,
+    );
+    if let Verdict::Refused(number) = verdict {
+        return Summary::Refused(number);
+    }
+    let end = layout::total(layout::LAYOUT, workers, nodes);
+    Summary::Done(run_entries(&mut arena[0..end], workers, nodes, schedule, history))
+}
+
+// All entries, in words that are just those of the arena.
+fn run_entries(
+    arena: &mut [u16],
+    workers: u16,
+    nodes: u16,
+    schedule: &[u16],
+    history: &mut [u16],
+) -> Totals
+    requires { ⌜ goodCounts workers nodes ≡ true ⌝ }
+    requires { ⌜ length (now arena) ≡ total layoutNumber workers nodes ⌝ }
+    requires { ⌜ length (now schedule) % entryWidth ≡ 0 ⌝ }
+    requires { ⌜ length (now schedule) ≤ 12000 ⌝ }
+    requires { ⌜ callWidth * operationsIn (entriesOf (now schedule)) ≤ length (now history) ⌝ }
+    ensures words { λ _. ⌜ now (arena .exit)
+        ≡ arenaAt workers nodes (entriesOf (now (schedule .entry))) (length (entriesOf (now (schedule .entry)))) ⌝ }
+    ensures calls { λ _. ⌜ now (history .exit) ≡ flatWords (recordsOf workers nodes (now (schedule .entry)))
+        ++ drop (callWidth * length (recordsOf workers nodes (now (schedule .entry)))) (now (history .entry)) ⌝ }
+    ensures totals { λ r. ⌜ r ≡ totalsOf (totals workers nodes (entriesOf (now (schedule .entry)))) ⌝ }
+{
+    arena::init(arena, workers, nodes);
+    let count = schedule.len() / verdict::ENTRY_WIDTH;
+    let mut book = Book::new();
+    let mut done = 0;
+    while done < count {
+        let at = verdict::ENTRY_WIDTH * done;
+        let time = (done + 1) as u16;
+        book = entries::enter(
+            arena,
+            history,
+            book,
+            time,
+            schedule[at],
+            schedule[at + 1],
+            schedule[at + 2],
+        );
+        done += 1;
+    }
+    Totals {
+        entries: count as u16,
+        refused: book.refused,
+        waits: book.waits,
+        calls: book.calls,
+    }
+}
