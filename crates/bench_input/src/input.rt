@@ -1,0 +1,95 @@
+// The whole input, line by line.
+ghost use mathlib.Core.Path.{_≡_};
+ghost use mathlib.Core.List.{[], flatten};
+ghost use Prim.Native.Nat.{_*_, _≤_};
+ghost use lib.ListN.{length, replicate};
+ghost use lib.Seq.{sets};
+ghost use Rattle.bench_input.specs.Bytes.{lineFeed, parts};
+ghost use Rattle.bench_input.specs.Input.{mostBytes, entry, linesFrom, outcomeOf, answerOf, scheduled};
+use crate::Parsed;
+use crate::Plan;
+use crate::bytes::LINE_FEED;
+use crate::bytes::find;
+use crate::lines::Line;
+use crate::lines::MOST_ENTRIES;
+use crate::lines::line_of;
+use arena::layout::good_counts;
+use arena::words::put;
+
+const MOST_BYTES: usize = 16384;
+
+// Reads an input and writes the entries of its schedule, three words each. Where a line is bad, the entries of the lines before it
+// have been written.
+pub fn parse(input: &[u8], schedule: &mut [u16]) -> Parsed
+    ensures answer { λ r. ⌜ r ≡ answerOf (outcomeOf (now (input .entry))) ⌝ }
+    ensures words { λ _. ⌜ now (schedule .exit) ≡ scheduled (now (schedule .entry)) (outcomeOf (now (input .entry))) ⌝ }
+{
+    if MOST_BYTES < input.len() {
+        return Parsed::BadLine(0);
+    }
+    let end = find(input, LINE_FEED);
+    if input.len() <= end {
+        return Parsed::BadLine(1);
+    }
+    let Line::Board(workers, nodes) = line_of(&input[..end]) else {
+        return Parsed::BadLine(1);
+    };
+    if !good_counts(workers, nodes) {
+        return Parsed::BadLine(1);
+    }
+    parse_entries(&input[end + 1..], workers, nodes, schedule)
+}
+
+// The lines from the second on.
+fn parse_entries(text: &[u8], workers: u16, nodes: u16, schedule: &mut [u16]) -> Parsed
+    requires { ⌜ length (now text) ≤ mostBytes ⌝ }
+    ensures answer { λ r. ⌜ r ≡ answerOf (linesFrom workers nodes 2 [] (parts lineFeed (now (text .entry)))) ⌝ }
+    ensures words { λ _. ⌜ now (schedule .exit) ≡
+        scheduled (now (schedule .entry)) (linesFrom workers nodes 2 [] (parts lineFeed (now (text .entry)))) ⌝ }
+{
+    let mut rest = text;
+    let mut line: u16 = 2;
+    let mut entries: u16 = 0;
+    while 0 < rest.len() {
+        let end = find(rest, LINE_FEED);
+        if rest.len() <= end {
+            return Parsed::BadLine(line);
+        }
+        let Line::Entries {
+            worker,
+            act,
+            key,
+            count,
+        } = line_of(&rest[..end])
+        else {
+            return Parsed::BadLine(line);
+        };
+        if MOST_ENTRIES - entries < count {
+            return Parsed::BadLine(line);
+        }
+        write_entries(schedule, entries, count, worker, act, key);
+        entries += count;
+        line += 1;
+        rest = &rest[end + 1..];
+    }
+    Parsed::Planned(Plan {
+        workers,
+        nodes,
+        entries,
+    })
+}
+
+// So many equal entries, behind the first ones.
+fn write_entries(schedule: &mut [u16], first: u16, count: u16, worker: u16, act: u16, key: u16)
+    ensures { λ _. ⌜ now (schedule .exit) ≡ sets (now (schedule .entry)) (3 * first) (flatten (replicate count (entry worker act key))) ⌝ }
+{
+    let mut at = 3 * (first as usize);
+    let mut left = count;
+    while 0 < left {
+        put(schedule, at, worker);
+        put(schedule, at + 1, act);
+        put(schedule, at + 2, key);
+        at += 3;
+        left -= 1;
+    }
+}

@@ -1,0 +1,156 @@
+-- No output is longer than the words that the bench program has for it.
+use Prim.Native.Nat.{ℕ, _+_, _*_, _≤_}
+use mathlib.Core.Path.{_≡_, refl, _∙_}
+use mathlib.Core.List.{List, [], _∷_, map, flatten}
+use mathlib.Core.Bool.{Bool, true, false, cond}
+use native.Mathlib.Nat.{mul-suc}
+use native.Mathlib.Omega.{arith}
+use lib.ListN.{length, take, drop, replicate, length-append, length-map}
+use lib.Seq.{sets-eq, take-append-seam}
+use lib.Dec.{leb, eqb}
+use Rattle.worker.specs.Worker.{add, remove}
+use Rattle.worker.specs.Refusals.{Refusal, judged}
+use Rattle.arena.specs.Replies.{Reply, refused, accepted, replied}
+use Rattle.arena.specs.Snapshot.{keysOf}
+use Rattle.arena.proofs.Bounds.{counts}
+use Rattle.arena.proofs.Judged.{judged-refused, judged-accepted}
+use Rattle.linear.specs.History.{calls, totals}
+use Rattle.linear.proofs.Members.{whole}
+use Rattle.linear.proofs.Timeline.{Schedule, last, arena, sound, always}
+use Rattle.schedule.specs.declared.Call.{Call}
+use Rattle.schedule.specs.declared.Totals.{Totals}
+use Rattle.schedule.specs.Run.{entriesOf, runRefusals, recordsOf, recordOf, totalsOf}
+use Rattle.schedule.proofs.Booked.{starts}
+use Rattle.schedule.proofs.HistoryLaws.{Accepted, run-passed}
+use Rattle.schedule.proofs.Running.{calls-fit}
+use Rattle.bench_input.specs.Bytes.{bytesOf}
+use Rattle.bench_input.specs.Input.{Outcome, planned, badLine, outcomeOf}
+use Rattle.bench_print.specs.Print.{Printed, digitAt, decimal, labelled, badLineText, refusedText, totalsText, operationText, answerText, callText, keysText, rollText}
+use Rattle.bench_run.specs.Output.{arenaWords, recordCount, runText, scheduleText, outcomeText, outputOf}
+use Rattle.bench_run.proofs.RollLaws.{keys-few}
+
+digit-short : (place n : ℕ) → length (digitAt place n) ≤ 1
+unfolding digitAt
+digit-short place n = go (leb place n) _
+  where
+    go : (there : Bool) (byte : ℕ) → length {A = ℕ} (cond there (byte ∷ []) []) ≤ 1
+    go true byte = omega arith
+    go false byte = omega arith
+
+decimal-short : (n : ℕ) → length (decimal n) ≤ 5
+unfolding decimal
+decimal-short n =
+    simp length-append (omega (arith, digit-short 10000 n, digit-short 1000 n, digit-short 100 n, digit-short 10 n))
+
+totals-short : (t : Totals) → length (totalsText t) ≤ 52
+unfolding totalsText
+totals-short t =
+    simp length-append
+    (omega (arith, decimal-short (t .entries), decimal-short (t .refused), decimal-short (t .waits), decimal-short (t .calls)))
+
+-- one of some texts
+either : (test : Bool) (a b : List ℕ) (most : ℕ) → length a ≤ most → length b ≤ most → length (cond test a b) ≤ most
+either true a b most low high = low
+either false a b most low high = high
+
+operation-short : (operation : ℕ) → length (operationText operation) ≤ 9
+unfolding operationText
+operation-short operation =
+    either (eqb operation add) _ _ 9 (omega arith) (either (eqb operation remove) (bytesOf " remove") (bytesOf " contains") 9 (omega
+    arith) (omega arith))
+
+answer-short : (answer : ℕ) → length (answerText answer) ≤ 5
+unfolding answerText
+answer-short answer =
+    either (eqb answer 0) (bytesOf " open") _ 5 (omega arith)
+    (either (eqb answer 1) (bytesOf " yes") _ 5 (omega arith)
+    (either (eqb answer 2) (bytesOf " no") (bytesOf " full") 5 (omega arith) (omega arith)))
+
+call-short : (c : Call) → length (callText c) ≤ 44
+unfolding callText
+call-short c =
+    simp length-append
+    (omega (
+      arith,
+      decimal-short (c .worker),
+      operation-short (c .operation),
+      decimal-short (c .key),
+      decimal-short (c .start),
+      decimal-short (c .point),
+      decimal-short (c .finish),
+      answer-short (c .answer),
+    ))
+
+-- texts of a list, none of them longer than some
+texts-short : {A : Type 0} (text : A → List ℕ) (most : ℕ) → ((a : A) → length (text a) ≤ most) → (xs : List A) →
+    length (flatten (map text xs)) ≤ most * length xs
+unfolding flatten
+texts-short text most short [] = omega arith
+texts-short text most short (x ∷ xs) = rw (length-append, mul-suc) (omega (arith, short x, texts-short text most short xs))
+
+roll-short : (keys : List ℕ) → length (rollText keys) ≤ 5 + 6 * length keys
+unfolding rollText keysText
+roll-short keys =
+    simp length-append
+    (omega (arith, texts-short (labelled " ") 6 (λ n. simp length-append (omega (arith, decimal-short n))) keys))
+
+refused-short : (number : ℕ) → length (refusedText number) ≤ 14
+unfolding refusedText
+refused-short number = simp length-append (omega (arith, decimal-short number))
+
+bad-line-short : (line : ℕ) → length (badLineText line) ≤ 15
+unfolding badLineText
+bad-line-short line = simp length-append (omega (arith, decimal-short line))
+
+-- a run that is not refused has at most 1,000 calls, and at most 1,024 keys on its chain
+run-short : (workers nodes : ℕ) (schedule : List ℕ) → Accepted (replicate arenaWords 0) workers nodes schedule recordCount →
+    length (runText workers nodes schedule) ≤ 65536
+unfolding runText recordsOf calls
+run-short workers nodes schedule passed =
+    let r : Schedule = record { workers = workers; nodes = nodes; entries = entriesOf schedule; good = passed .counts } in
+    let records : length (recordsOf workers nodes schedule) ≡ length (starts r (last r))
+    = length-map (calls workers nodes (entriesOf schedule)) recordOf ∙ length-map (starts r (last r)) _ in
+    simp length-append
+    (omega (
+      arith,
+      totals-short (totalsOf (totals workers nodes (entriesOf schedule))),
+      texts-short callText 44 call-short (recordsOf workers nodes schedule),
+      roll-short (keysOf (arena r (last r))),
+      calls-fit r (last r) (omega arith),
+      passed .calls-fit,
+      keys-few (arena r (last r)) (whole (sound r (last r)) (always r (last r))),
+      sound r (last r) .nodes-are,
+      counts workers nodes (passed .counts),
+    ))
+
+schedule-short : (workers nodes : ℕ) (schedule : List ℕ) → length (scheduleText workers nodes schedule) ≤ 65536
+unfolding scheduleText
+schedule-short workers nodes schedule = go (replied refusals []) refl
+  where
+    refusals : List Refusal
+    refusals = runRefusals (replicate arenaWords 0) workers nodes schedule recordCount
+
+    go : (reply : Reply) → reply ≡ replied refusals [] →
+        length (judged refusals refusedText (runText workers nodes schedule)) ≤ 65536
+    go (refused number) told =
+        rw (judged-refused refusals [] refusedText (runText workers nodes schedule) told) (omega (arith, refused-short number))
+    go (accepted values) told =
+        rw (judged-accepted refusals [] refusedText (runText workers nodes schedule) told)
+        (run-short workers nodes schedule (run-passed (replicate arenaWords 0) workers nodes schedule recordCount [] told))
+
+pub output-fits : (input : List ℕ) → length (outputOf input) ≤ 65536
+unfolding outputOf
+output-fits input = go (outcomeOf input)
+  where
+    go : (o : Outcome) → length (outcomeText o) ≤ 65536
+    go (planned workers nodes entries) = schedule-short workers nodes (flatten entries)
+    go (badLine line entries) = omega (arith, bad-line-short line)
+
+-- so with that much room the bytes that are printed are the whole output
+pub output-whole : (input before after : List ℕ) (end : ℕ) → Printed (outputOf input) before 0 after end → 65536 ≤ length before →
+    take end after ≡ outputOf input
+output-whole input before after end printed room =
+    let fits = output-fits input in
+    let all : end ≡ length (outputOf input) = omega (arith, printed .place) in
+    rw (printed .bytes, all, sets-eq (outputOf input) before 0 (omega arith))
+    (take-append-seam (outputOf input) (drop (0 + length (outputOf input)) before))

@@ -1,0 +1,4 @@
+-- Laws of the bench program's output.
+pub mod RollLaws
+pub mod OutputLaws
+pub mod LengthLaws

@@ -1,0 +1,226 @@
+-- What a run answers and leaves, as the parts of the text that is printed of it.
+use Prim.Native.Nat.{ℕ, zero, suc, _*_, _%_, _≤_}
+use mathlib.Core.Path.{_≡_, refl, sym, ap, _∙_}
+use mathlib.Core.List.{List, [], _∷_, _++_, map, flatten}
+use mathlib.Core.Bool.{Bool, true, false, cond}
+use native.Mathlib.Omega.{arith}
+use lib.ListN.{length, take, drop, replicate, length-map, length-set, length-replicate}
+use lib.Seq.{length-sets, take-append-seam, take-at}
+use lib.Dec.{ltb}
+use borrow.Author.Tests.{le-ltb}
+use Rattle.worker.specs.Worker.{startedWorker}
+use Rattle.worker.specs.Refusals.{Refusal, judged, noRoom}
+use Rattle.worker.specs.declared.report.Effect.{Effect}
+use Rattle.worker.specs.declared.report.Effect.the-variants as effect
+use Rattle.worker.specs.declared.report.Turned.{Turned}
+use Rattle.worker.specs.declared.report.Turned.the-variants as turned
+use Rattle.arena.specs.Layout.{layoutNumber, nodeWidth, goodCounts, total}
+use Rattle.arena.specs.Records.{withWorker}
+use Rattle.arena.specs.Replies.{refused, accepted, replied}
+use Rattle.arena.specs.Start.{startRefusals, startArena}
+use Rattle.arena.specs.Snapshot.{keysOf, snapshotRefusals}
+use Rattle.arena.proofs.Bounds.{counts}
+use Rattle.arena.proofs.FreshLaws.{fresh-length}
+use Rattle.arena.proofs.Judged.{judged-refused, judged-accepted, given-values}
+use Rattle.lazy.specs.Turn.{turnOn, withEffect, turnedArena, turnArena}
+use Rattle.linear.specs.Entries.{Entry, isTurn, after}
+use Rattle.linear.specs.History.{arenaAt, totals, calls}
+use Rattle.linear.proofs.Timeline.{Schedule, last, arena, entry}
+use Rattle.schedule.specs.declared.Call.{Call}
+use Rattle.schedule.specs.declared.Totals.{Totals}
+use Rattle.schedule.specs.declared.Summary.the-variants as summary
+use Rattle.schedule.specs.Run.{entriesOf, isBadSchedule, operationsIn, runRefusals, runAnswer, runArena, runRecords, recordsOf, recordOf, totalsOf, summaryReply}
+use Rattle.schedule.proofs.HistoryLaws.{Accepted, run-passed, told-calls}
+use Rattle.schedule.proofs.Booked.{starts}
+use Rattle.schedule.proofs.Running.{calls-fit}
+use Rattle.history.specs.Rows.{noCall}
+use Rattle.bench_input.specs.declared.Plan.{Plan}
+use Rattle.bench_input.specs.declared.Parsed.the-variants as parsed
+use Rattle.bench_input.specs.Input.{Outcome, planned, badLine, outcomeOf, answerOf, scheduled}
+use Rattle.bench_print.specs.Print.{badLineText, refusedText, totalsText, callText, rollText}
+use Rattle.bench_input.proofs.PlanLaws.{Fits, planned-sound, planned-words}
+use Rattle.bench_run.proofs.RollLaws.{roll-fits}
+use Rattle.bench_run.specs.Output.{arenaWords, recordCount, runText, scheduleText, outcomeText, outputOf}
+
+-- no entry changes the number of the words
+judged-length : (rs : List Refusal) (before after : List ℕ) → length after ≡ length before →
+    length (judged rs (λ number. before) after) ≡ length before
+judged-length [] before after same = same
+judged-length (r ∷ rs) before after same = go (r .0) (judged-length rs before after same)
+  where
+    go : (test : Bool) → length (judged rs (λ number. before) after) ≡ length before →
+        length (cond test before (judged rs (λ number. before) after)) ≡ length before
+    go true rest = refl
+    go false rest = rest
+
+effect-length : (words : List ℕ) (e : Effect) → length (withEffect words e) ≡ length words
+unfolding withEffect
+effect-length words effect.Nothing = refl
+effect-length words (effect.SetOwner node owner) = rw length-set
+effect-length words (effect.SetNext node next) = rw length-set
+effect-length words (effect.SetMark node) = rw length-set
+effect-length words (effect.Fill node key next) = rw length-sets
+
+turned-length : (words : List ℕ) (worker : ℕ) (t : Turned) → length (turnedArena words worker t) ≡ length words
+unfolding withWorker
+turned-length words worker (turned.Done step) = rw length-sets (effect-length words (step .effect))
+turned-length words worker (turned.Refused number) = refl
+
+after-length : (words : List ℕ) (x : Entry) → length (after words x) ≡ length words
+unfolding after startArena turnArena withWorker
+after-length words x = go (isTurn x)
+  where
+    go : (turning : Bool) → length (cond turning (turnArena words (x .worker)) (startArena words (x .worker) (x .act) (x .key))) ≡ length
+        words
+    go true = turned-length words (x .worker) (turnOn words (x .worker))
+    go false = judged-length (startRefusals words (x .worker) (x .act) (x .key)) words
+        (withWorker words (x .worker) (startedWorker (x .act) (x .key))) (rw length-sets)
+
+arena-length : (r : Schedule) (time : ℕ) → length (arena r time) ≡ total layoutNumber (r .workers) (r .nodes)
+unfolding arenaAt
+arena-length r zero = fresh-length (r .workers) (r .nodes) (omega (arith, counts (r .workers) (r .nodes) (r .good)))
+arena-length r (suc time) = after-length (arena r time) (entry r time) ∙ arena-length r time
+
+module _ (workers nodes : ℕ) (schedule : List ℕ) where
+  abbrev lent : List ℕ
+  lent = replicate arenaWords 0
+
+  abbrev refusals : List Refusal
+  refusals = runRefusals lent workers nodes schedule recordCount
+
+  pub refused-text : {number : ℕ} → refused number ≡ runAnswer lent workers nodes schedule recordCount →
+      refusedText number ≡ scheduleText workers nodes schedule
+  unfolding scheduleText runAnswer
+  refused-text told = sym (judged-refused refusals _ refusedText (runText workers nodes schedule) told)
+
+  module _ (t : Totals) (told : summaryReply (summary.Done t) ≡ runAnswer lent workers nodes schedule recordCount) where
+    pub passed : Accepted lent workers nodes schedule recordCount
+    unfolding runAnswer
+    passed = run-passed lent workers nodes schedule recordCount _ told
+
+    abbrev run : Schedule
+    run = record { workers = workers; nodes = nodes; entries = entriesOf schedule; good = passed .counts }
+
+    -- where the run is accepted, its text is printed
+    pub done-text : runText workers nodes schedule ≡ scheduleText workers nodes schedule
+    unfolding scheduleText runAnswer
+    done-text = sym (judged-accepted refusals _ refusedText (runText workers nodes schedule) told)
+
+    pub totals-are : t ≡ totalsOf (totals workers nodes (entriesOf schedule))
+    unfolding runAnswer
+    totals-are =
+        let all = totals workers nodes (entriesOf schedule) in
+        let same : t .entries ∷ t .refused ∷ t .waits ∷ t .calls ∷ [] ≡ all .entries ∷ all .refused ∷ all .waits ∷ all .calls ∷ []
+        = given-values refusals (all .entries ∷ all .refused ∷ all .waits ∷ all .calls ∷ []) told in
+        let entries-same : t .entries ≡ all .entries = cc in
+        let refused-same : t .refused ≡ all .refused = cc in
+        let waits-same : t .waits ≡ all .waits = cc in
+        let calls-same : t .calls ≡ all .calls = cc in
+        λ k. record { entries = entries-same k; refused = refused-same k; waits = waits-same k; calls = calls-same k }
+
+    -- as many as there are records
+    counted : t .calls ≡ length (recordsOf workers nodes schedule)
+    counted = ap (λ (all : Totals). all .calls) totals-are ∙ told-calls workers nodes schedule
+
+    -- the first records of the row are those of the calls
+    pub records-are : take (t .calls) (runRecords lent workers nodes schedule (replicate recordCount noCall))
+        ≡ recordsOf workers nodes schedule
+    unfolding runRecords runAnswer
+    records-are =
+        rw (counted, length-replicate)
+        (ap (take (length (recordsOf workers nodes schedule)))
+        (judged-accepted refusals _ (λ number. replicate recordCount noCall)
+        (recordsOf workers nodes schedule ++ drop (length (recordsOf workers nodes schedule)) (replicate recordCount noCall)) told)
+        ∙ take-append-seam (recordsOf workers nodes schedule) _)
+
+    pub few-calls : t .calls ≤ recordCount
+    unfolding recordsOf calls
+    few-calls =
+        let records : length (recordsOf workers nodes schedule) ≡ length (starts run (last run))
+        = length-map (calls workers nodes (entriesOf schedule)) recordOf ∙ length-map (starts run (last run)) _ in
+        omega (arith, counted, calls-fit run (last run) (omega arith), passed .calls-fit)
+
+    -- and the first words are the arena
+    pub arena-are : take (total layoutNumber workers nodes) (runArena lent workers nodes schedule recordCount)
+        ≡ arenaAt workers nodes (entriesOf schedule) (length (entriesOf schedule))
+    unfolding runArena runAnswer
+    arena-are =
+        ap (take (total layoutNumber workers nodes))
+        (judged-accepted refusals _ (λ number. lent) (arena run (last run) ++ drop (total layoutNumber workers nodes) lent) told)
+        ∙ take-at (arena run (last run)) (drop (total layoutNumber workers nodes) lent) (total layoutNumber workers nodes)
+        (arena-length run (last run))
+
+    pub roll-room : accepted [] ≡ replied (snapshotRefusals (arenaAt workers nodes (entriesOf schedule) (length (entriesOf schedule)))
+        1024) []
+    roll-room = roll-fits run (last run)
+
+    -- and these are the parts of what is printed
+    pub whole-text : {row : List Call} {words : List ℕ} {end : ℕ} →
+        row ≡ runRecords lent workers nodes schedule (replicate recordCount noCall) →
+        words ≡ runArena lent workers nodes schedule recordCount → end ≡ total layoutNumber workers nodes →
+        totalsText t ++ flatten (map callText (take (t .calls) row)) ++ rollText (keysOf (take end words))
+        ≡ scheduleText workers nodes schedule
+    unfolding runText
+    whole-text r w e =
+        rw (r, w, e, records-are, arena-are, totals-are) done-text
+
+-- what is printed of a bad line, and of a plan
+module _ (input : List ℕ) where
+  pub bad-text : {line : ℕ} → parsed.BadLine line ≡ answerOf (outcomeOf input) → badLineText line ≡ outputOf input
+  unfolding outputOf
+  bad-text {line} told = go (outcomeOf input) told
+    where
+      go : (o : Outcome) → parsed.BadLine line ≡ answerOf o → badLineText line ≡ outcomeText o
+      go (planned workers nodes entries) e = let z : _≡_ {A = ℕ} 0 1 = cc in absurd (omega arith)
+      go (badLine number entries) e = let same : line ≡ number = cc in ap badLineText same
+
+  module _ (plan : Plan) (words : List ℕ) (told : parsed.Planned plan ≡ answerOf (outcomeOf input))
+      (written : words ≡ scheduled (replicate 12000 0) (outcomeOf input)) where
+    -- the plan of an outcome
+    as-planned : (o : Outcome) → parsed.Planned plan ≡ answerOf o →
+        (entries : List (List ℕ)) × (o ≡ planned (plan .workers) (plan .nodes) entries) × (plan .entries ≡ length entries)
+    as-planned (planned workers nodes entries) e =
+        let same : plan ≡ record { workers = workers; nodes = nodes; entries = length entries } = cc in
+        (entries, rw same, ap (λ (p : Plan). p .entries) same)
+    as-planned (badLine number entries) e = let z : _≡_ {A = ℕ} 0 1 = cc in absurd (omega arith)
+
+    pub plan-fits : 3 * plan .entries ≤ 12000
+    plan-fits =
+        let is = as-planned (outcomeOf input) told in
+        omega (arith, is .2, planned-sound input (plan .workers) (plan .nodes) (is .0) (is .1) .1 .few)
+
+    pub plan-text : scheduleText (plan .workers) (plan .nodes) (take (3 * plan .entries) words) ≡ outputOf input
+    unfolding outputOf
+    plan-text =
+        let is = as-planned (outcomeOf input) told in
+        ap (scheduleText (plan .workers) (plan .nodes))
+        (ap (λ n. take (3 * n) words) (is .2) ∙ ap (take (3 * length (is .0))) written
+        ∙ planned-words input (plan .workers) (plan .nodes) (is .0) (is .1) (replicate 12000 0) (rw length-replicate (omega arith)))
+        ∙ sym (ap outcomeText (is .1))
+
+-- of a plan the counts and the length of the schedule are good, and the arena's words are enough: only the row may be too short
+good-plan : (entries : List (List ℕ)) → Fits entries → isBadSchedule (flatten entries) ≡ false
+unfolding isBadSchedule
+good-plan entries fits =
+    let whole-entries : length (flatten entries) % 3 ≡ 0 = omega (arith, fits .sized) in
+    rw (whole-entries, le-ltb 12000 (length (flatten entries)) (omega (arith, fits .few, fits .sized)))
+
+wide-enough : (workers nodes : ℕ) → goodCounts workers nodes ≡ true →
+    ltb (length {A = ℕ} (replicate arenaWords 0)) (total layoutNumber workers nodes) ≡ false
+unfolding nodeWidth
+wide-enough workers nodes good =
+    le-ltb (length {A = ℕ} (replicate arenaWords 0)) (total layoutNumber workers nodes)
+    (omega (arith, counts workers nodes good, length-replicate {A = ℕ} arenaWords 0))
+
+pub only-no-room : (input : List ℕ) (workers nodes : ℕ) (entries : List (List ℕ)) → outcomeOf input ≡ planned workers nodes entries →
+    {number : ℕ} → refused number ≡ replied (runRefusals (replicate arenaWords 0) workers nodes (flatten entries) recordCount) [] →
+    number ≡ noRoom
+unfolding runRefusals
+only-no-room input workers nodes entries plan {number} told =
+    let fits = planned-sound input workers nodes entries plan in
+    go (ltb recordCount (operationsIn (entriesOf (flatten entries))))
+    (rw (fits .0, good-plan entries (fits .1), wide-enough workers nodes (fits .0)) at told)
+  where
+    go : (short : Bool) → refused number ≡ cond short (refused noRoom) (accepted []) → number ≡ noRoom
+    go true e = cc
+    go false e = let z : _≡_ {A = ℕ} 0 1 = cc in absurd (omega arith)

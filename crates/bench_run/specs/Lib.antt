@@ -1,0 +1,2 @@
+-- The bench program's output, for each input.
+pub mod Output

@@ -1,0 +1,75 @@
+// What the bench program prints for an input: the input is parsed, its schedule is run, and the history is printed.
+ghost use mathlib.Core.Path.{_≡_};
+ghost use mathlib.Core.List.{[], map, flatten};
+ghost use Prim.Native.Nat.{_≤_};
+ghost use lib.ListN.{take};
+ghost use Rattle.arena.specs.Snapshot.{keysOf, snapshotRefusals};
+ghost use Rattle.arena.specs.Replies.{accepted, replied};
+ghost use Rattle.bench_print.specs.Print.{Printed, callText, rollText};
+ghost use Rattle.bench_run.specs.Output.{outputOf, scheduleText};
+use arena::Listing;
+use arena::layout;
+use bench_input::Parsed;
+use schedule::Call;
+use schedule::Summary;
+
+// Writes what is printed for an input, as far as there is room, and answers its length. 65,536 bytes hold every output
+// (`LengthLaws.output-whole`).
+pub fn answer(input: &[u8], output: &mut [u8]) -> usize
+    ensures { λ r. ⌜ Printed (outputOf (now (input .entry))) (now (output .entry)) 0 (now (output .exit)) r ⌝ }
+{
+    let mut schedule = [0u16; 12000];
+    match bench_input::parse(input, &mut schedule) {
+        Parsed::BadLine(line) => bench_print::print_bad_line(output, 0, line),
+        Parsed::Planned(plan) => {
+            let end = 3 * (plan.entries as usize);
+            print_schedule(output, plan.workers, plan.nodes, &schedule[0..end])
+        }
+    }
+}
+
+fn print_schedule(output: &mut [u8], workers: u16, nodes: u16, schedule: &[u16]) -> usize
+    ensures { λ r. ⌜ Printed (scheduleText workers nodes (now (schedule .entry))) (now (output .entry)) 0 (now (output .exit)) r ⌝ }
+{
+    let mut arena = [0u16; 4168];
+    let ran = history::run_thousand(&mut arena, workers, nodes, schedule);
+    let summary = ran.summary;
+    let row = ran.row;
+    match summary {
+        Summary::Refused(number) => bench_print::print_refused(output, 0, number),
+        Summary::Done(totals) => {
+            let calls_at = bench_print::print_totals(output, 0, totals);
+            let roll_at = print_calls(output, calls_at, row, totals.calls);
+            let end = layout::total(layout::LAYOUT, workers, nodes);
+            print_keys(output, roll_at, &arena[0..end])
+        }
+    }
+}
+
+// The first records of a row, a line each.
+fn print_calls(output: &mut [u8], at: usize, row: [Call; 1000], count: u16) -> usize
+    requires { ⌜ count ≤ 1000 ⌝ }
+    ensures { λ r. ⌜ Printed (flatten (map callText (take count row))) (now (output .entry)) at (now (output .exit)) r ⌝ }
+{
+    let mut next = at;
+    let mut i: u16 = 0;
+    while i < count {
+        let number = i as usize;
+        let call = row[number];
+        next = bench_print::print_call(output, next, call);
+        i += 1;
+    }
+    next
+}
+
+// The keys on the chain of an arena that has at most as many as there are words for.
+fn print_keys(output: &mut [u8], at: usize, arena: &[u16]) -> usize
+    requires { ⌜ accepted [] ≡ replied (snapshotRefusals (now arena) 1024) [] ⌝ }
+    ensures { λ r. ⌜ Printed (rollText (keysOf (now (arena .entry)))) (now (output .entry)) at (now (output .exit)) r ⌝ }
+{
+    let mut keys = [0u16; 1024];
+    let Listing::Keys(count) = arena::snapshot(arena, &mut keys) else {
+        return at;
+    };
+    bench_print::print_roll(output, at, &keys, count)
+}
