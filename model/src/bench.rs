@@ -1,0 +1,182 @@
+//! The bench program of document 01 ("Dagmar's bench program"), byte for byte.
+
+use crate::arena::*;
+use crate::run::{run_traced, Call, Trace};
+use crate::turn::Answer;
+
+pub const MAX_BYTES: usize = 16_384;
+pub const MAX_ENTRIES: usize = 4_000;
+pub const MAX_RECORDS: usize = 1_000;
+
+/// What the bench makes of an input.
+pub enum Outcome {
+    BadLine(usize),
+    Refused(u16),
+    /// The run and the keys of its roll.
+    Ran(Box<Trace>, Vec<u16>),
+}
+
+/// A good input.
+struct Input {
+    workers: u16,
+    nodes: u16,
+    schedule: Vec<u16>,
+}
+
+pub fn bench(input: &[u8]) -> Vec<u8> {
+    render(&evaluate(input))
+}
+
+pub fn evaluate(input: &[u8]) -> Outcome {
+    let good = match read_input(input) {
+        Ok(good) => good,
+        Err(line) => return Outcome::BadLine(line),
+    };
+    let mut arena = vec![0; MAX_WORDS];
+    match run_traced(
+        &mut arena,
+        good.workers,
+        good.nodes,
+        &good.schedule,
+        MAX_RECORDS,
+    ) {
+        Err(number) => Outcome::Refused(number),
+        Ok(trace) => {
+            let mut keys = vec![0; MAX_NODES as usize];
+            match snapshot(&arena, &mut keys) {
+                Err(number) => Outcome::Refused(number),
+                Ok(count) => {
+                    keys.truncate(count);
+                    Outcome::Ran(Box::new(trace), keys)
+                }
+            }
+        }
+    }
+}
+
+/// The schedule of an input, or the number of its first bad line.
+fn read_input(input: &[u8]) -> Result<Input, usize> {
+    if input.len() > MAX_BYTES {
+        return Err(0);
+    }
+    let (first, mut rest) = take_line(input).ok_or(1_usize)?;
+    let (workers, nodes) = board_line(first).ok_or(1_usize)?;
+    let mut schedule = Vec::new();
+    let mut line_number = 1;
+    while !rest.is_empty() {
+        line_number += 1;
+        let (line, after) = take_line(rest).ok_or(line_number)?;
+        entry_line(line, &mut schedule).ok_or(line_number)?;
+        if schedule.len() > 3 * MAX_ENTRIES {
+            return Err(line_number);
+        }
+        rest = after;
+    }
+    Ok(Input {
+        workers,
+        nodes,
+        schedule,
+    })
+}
+
+/// The first line without its LF, and what follows; None if no LF ends it.
+fn take_line(input: &[u8]) -> Option<(&[u8], &[u8])> {
+    let end = input.iter().position(|&byte| byte == b'\n')?;
+    Some((&input[..end], &input[end + 1..]))
+}
+
+/// The word and the two numbers of a line, parted by one space each.
+fn three_fields(line: &[u8]) -> Option<(&[u8], u16, u16)> {
+    let fields: Vec<&[u8]> = line.split(|&byte| byte == b' ').collect();
+    match fields[..] {
+        [word, first, second] => Some((word, number(first)?, number(second)?)),
+        _ => None,
+    }
+}
+
+/// A decimal number up to 65,535 without leading zeros.
+fn number(field: &[u8]) -> Option<u16> {
+    let leading_zero = field.len() > 1 && field[0] == b'0';
+    if field.is_empty() || field.len() > 5 || leading_zero {
+        return None;
+    }
+    let mut value: u32 = 0;
+    for byte in field {
+        if !byte.is_ascii_digit() {
+            return None;
+        }
+        value = 10 * value + u32::from(byte - b'0');
+    }
+    u16::try_from(value).ok()
+}
+
+fn board_line(line: &[u8]) -> Option<(u16, u16)> {
+    let (word, workers, nodes) = three_fields(line)?;
+    if word != b"board" {
+        return None;
+    }
+    Shape::new(workers, nodes)?;
+    Some((workers, nodes))
+}
+
+/// Adds the line's entries to the schedule.
+fn entry_line(line: &[u8], schedule: &mut Vec<u16>) -> Option<()> {
+    let (word, worker, second) = three_fields(line)?;
+    let operation = match word {
+        b"add" => ADD,
+        b"remove" => REMOVE,
+        b"contains" => CONTAINS,
+        b"turn" if (1..=MAX_ENTRIES).contains(&(second as usize)) => {
+            for _ in 0..second {
+                schedule.extend([worker, 0, 0]);
+            }
+            return Some(());
+        }
+        _ => return None,
+    };
+    schedule.extend([worker, operation, second]);
+    Some(())
+}
+
+/// The output for an outcome; every line ends with LF.
+pub fn render(outcome: &Outcome) -> Vec<u8> {
+    let text = match outcome {
+        Outcome::BadLine(line) => format!("bad line {line}\n"),
+        Outcome::Refused(number) => format!("refused {number}\n"),
+        Outcome::Ran(trace, keys) => {
+            let totals = trace.totals;
+            let mut text = format!(
+                "entries {} refused {} waits {} calls {}\n",
+                totals.entries, totals.refused, totals.waits, totals.calls
+            );
+            for call in &trace.calls {
+                text.push_str(&call_line(call));
+            }
+            text.push_str("roll");
+            for key in keys {
+                text.push_str(&format!(" {key}"));
+            }
+            text.push('\n');
+            text
+        }
+    };
+    text.into_bytes()
+}
+
+fn call_line(call: &Call) -> String {
+    let operation = match call.operation {
+        ADD => "add",
+        REMOVE => "remove",
+        _ => "contains",
+    };
+    let answer = match Answer::from_number(call.answer) {
+        Some(Answer::Yes) => "yes",
+        Some(Answer::No) => "no",
+        Some(Answer::Full) => "full",
+        None => "open",
+    };
+    format!(
+        "{} {} {} {} {} {} {}\n",
+        call.worker, operation, call.key, call.start, call.point, call.finish, answer
+    )
+}

@@ -1,0 +1,19 @@
+//! A second, independent reading of document 01, and a driver that compares it with a program.
+
+pub mod arena;
+pub mod bench;
+pub mod compare;
+pub mod damage;
+pub mod generate;
+pub mod limits;
+pub mod linearizable;
+pub mod rng;
+pub mod run;
+pub mod scenes;
+pub mod script;
+pub mod selftest;
+pub mod selftest_refusals;
+pub mod selftest_words;
+pub mod sequential;
+pub mod tally;
+pub mod turn;

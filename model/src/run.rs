@@ -1,0 +1,201 @@
+//! Runs of schedules: totals, history and, for the checks, everything seen on the way.
+
+use crate::arena::*;
+use crate::turn::{turn, Answer, Report};
+
+pub const MAX_SCHEDULE_WORDS: usize = 12_000;
+
+/// One call record of the history; 0 where a point, finish or answer is not reached.
+#[derive(Clone, Copy, Debug, Default, PartialEq, Eq)]
+pub struct Call {
+    pub worker: u16,
+    pub operation: u16,
+    pub key: u16,
+    pub start: u16,
+    pub point: u16,
+    pub finish: u16,
+    pub answer: u16,
+}
+
+impl Call {
+    /// Contains calls with this answer have their point fixed by looking back.
+    pub fn is_contains_no(&self) -> bool {
+        self.operation == CONTAINS && self.answer == Answer::No.number()
+    }
+}
+
+#[derive(Clone, Copy, Debug, Default, PartialEq, Eq)]
+pub struct Totals {
+    pub entries: u16,
+    pub refused: u16,
+    pub waits: u16,
+    pub calls: u16,
+}
+
+/// A run with all that the checks and the table want to know of it.
+#[derive(Debug, Default)]
+pub struct Trace {
+    pub totals: Totals,
+    pub calls: Vec<Call>,
+    /// Per call the time of the turn that decided its answer, or 0.
+    pub decided: Vec<u16>,
+    /// The set at every time (document 01: moment); time 0 is the fresh arena.
+    pub sets: Vec<Vec<u16>>,
+    /// Refused entries by refusal number.
+    pub refusals: [u32; 11],
+    /// Turns at stage 11.
+    pub retries: u32,
+    /// Nodes taken again by an add after an earlier add had taken them.
+    pub reused_nodes: u32,
+    /// Per worker its unfinished call, as a place in `calls`.
+    current: [Option<usize>; MAX_WORKERS as usize],
+    taken_nodes: Vec<u16>,
+}
+
+/// Runs a schedule on an arena that it inits itself; the history has room for `row_len` records.
+/// Refusals 10, 9, 1, 8.
+pub fn run(
+    arena: &mut [u16],
+    workers: u16,
+    nodes: u16,
+    schedule: &[u16],
+    row_len: usize,
+) -> Result<(Totals, Vec<Call>), u16> {
+    let trace = run_traced(arena, workers, nodes, schedule, row_len)?;
+    Ok((trace.totals, trace.calls))
+}
+
+/// The same with everything seen on the way.
+pub fn run_traced(
+    arena: &mut [u16],
+    workers: u16,
+    nodes: u16,
+    schedule: &[u16],
+    row_len: usize,
+) -> Result<Trace, u16> {
+    let shape = Shape::new(workers, nodes).ok_or(BAD_COUNTS)?;
+    if !schedule.len().is_multiple_of(3) || schedule.len() > MAX_SCHEDULE_WORDS {
+        return Err(BAD_SCHEDULE);
+    }
+    if arena.len() < shape.total() {
+        return Err(SHORT_ARENA);
+    }
+    let is_start = |entry: &&[u16]| (ADD..=CONTAINS).contains(&entry[1]);
+    if schedule.chunks(3).filter(is_start).count() > row_len {
+        return Err(NO_ROOM);
+    }
+    init(arena, workers, nodes)?;
+    let mut trace = Trace::default();
+    trace.sets.push(set(arena));
+    for entry in schedule.chunks(3) {
+        trace.entry(arena, shape, entry[0], entry[1], entry[2]);
+    }
+    Ok(trace)
+}
+
+impl Trace {
+    fn entry(&mut self, arena: &mut [u16], shape: Shape, worker: u16, act: u16, key: u16) {
+        self.totals.entries += 1;
+        let done = if act == 0 {
+            self.turn_entry(arena, shape, worker)
+        } else {
+            self.start_entry(arena, worker, act, key)
+        };
+        if let Err(number) = done {
+            self.totals.refused += 1;
+            self.refusals[number as usize] += 1;
+            self.sets.push(set(arena));
+        }
+    }
+
+    /// The number of entries made so far.
+    fn time(&self) -> u16 {
+        self.totals.entries
+    }
+
+    fn start_entry(
+        &mut self,
+        arena: &mut [u16],
+        worker: u16,
+        operation: u16,
+        key: u16,
+    ) -> Result<(), u16> {
+        start(arena, worker, operation, key)?;
+        self.sets.push(set(arena));
+        self.totals.calls += 1;
+        self.current[worker as usize] = Some(self.calls.len());
+        self.calls.push(Call {
+            worker,
+            operation,
+            key,
+            start: self.time(),
+            ..Call::default()
+        });
+        self.decided.push(0);
+        Ok(())
+    }
+
+    fn turn_entry(&mut self, arena: &mut [u16], shape: Shape, worker: u16) -> Result<(), u16> {
+        let stage_before = if worker < shape.workers {
+            arena[shape.worker_at(worker) + STAGE]
+        } else {
+            0
+        };
+        let report = turn(arena, worker)?;
+        self.sets.push(set(arena));
+        match (report, self.current[worker as usize]) {
+            (Report::Waits, _) => self.totals.waits += 1,
+            (Report::Finished(_), Some(call)) => {
+                self.calls[call].finish = self.time();
+                self.current[worker as usize] = None;
+            }
+            (Report::Moved(_), Some(call)) => {
+                let at = shape.worker_at(worker);
+                let record = &arena[at..at + WORKER_WORDS];
+                self.settle(call, stage_before, record[ANSWER]);
+                self.note(stage_before, record);
+            }
+            _ => {}
+        }
+        Ok(())
+    }
+
+    /// Gives the call its answer and point if this turn decides them.
+    fn settle(&mut self, call: usize, stage_before: u16, answer: u16) {
+        let time = self.time();
+        let point = match (stage_before, Answer::from_number(answer)) {
+            (13, Some(Answer::No)) | (14, Some(Answer::Full)) => time,
+            (15 | 16 | 25, Some(Answer::Yes)) => time,
+            (23 | 25, Some(Answer::No)) => {
+                let Call { start, key, .. } = self.calls[call];
+                self.first_absent(key, start, time)
+            }
+            _ => return,
+        };
+        self.calls[call].point = point;
+        self.calls[call].answer = answer;
+        self.decided[call] = time;
+    }
+
+    /// The first time from `start` on at which the key is not in the set. Document 01 implies that
+    /// there is one; 0 otherwise, which the checks of the history would refuse.
+    fn first_absent(&self, key: u16, start: u16, now: u16) -> u16 {
+        (start..=now)
+            .find(|&time| !self.sets[time as usize].contains(&key))
+            .unwrap_or(0)
+    }
+
+    /// Counts for the table alone.
+    fn note(&mut self, stage_before: u16, record: &[u16]) {
+        if stage_before == 11 {
+            self.retries += 1;
+        }
+        if stage_before == 14 && record[STAGE] == 15 {
+            let node = record[SPARE];
+            if self.taken_nodes.contains(&node) {
+                self.reused_nodes += 1;
+            }
+            self.taken_nodes.push(node);
+        }
+    }
+}

@@ -1,0 +1,107 @@
+//! Schedules that lead workers into the situations that document 01 warns of; chance alone seldom
+//! finds them.
+
+use crate::arena::*;
+use crate::rng::Rng;
+use crate::script::{Script, Style};
+
+/// A contains stands still on its way while its key, or the node before it, goes out and its key
+/// comes back: it may answer no although the key is there again.
+pub fn overtaken(rng: &mut Rng) -> Script {
+    let workers = rng.word(2, 3);
+    let mut script = Script::new(workers, rng.word(4, 6));
+    let slow = workers - 1;
+    let key = rng.word(2, 4);
+    let before = rng.word(1, key - 1);
+    let with_before = rng.chance(50);
+    if with_before {
+        script.whole_call(0, ADD, before);
+    }
+    if rng.chance(70) {
+        script.whole_call(0, ADD, key);
+    }
+    script.start(slow, CONTAINS, key);
+    let steps = rng.range(1, 6) as usize;
+    script.turns(slow, steps);
+    script.whole_call(0, REMOVE, key);
+    if with_before && rng.chance(70) {
+        script.whole_call(0, REMOVE, before);
+    }
+    script.whole_call(0, ADD, key);
+    if rng.chance(30) {
+        script.whole_call(0, REMOVE, key);
+    }
+    let style = Style {
+        keys: 4,
+        burst: 3,
+        odd: 2,
+        slow: Some(slow),
+    };
+    for _ in 0..rng.range(0, 3) {
+        style.random_line(rng, &mut script);
+    }
+    if rng.chance(90) {
+        script.finish(slow);
+    }
+    script
+}
+
+/// A node is off the chain, or not yet on it, but not free: whether adds find room shows it.
+pub fn held_nodes(rng: &mut Rng) -> Script {
+    if rng.chance(60) {
+        held_by_removed(rng)
+    } else {
+        held_by_spare(rng)
+    }
+}
+
+/// A slow worker stands on a node; it and the nodes behind it are removed, so that it still leads
+/// to them; then others take all nodes that they can get.
+fn held_by_removed(rng: &mut Rng) -> Script {
+    let workers = rng.word(2, 3);
+    let nodes = rng.word(4, 7);
+    let mut script = Script::new(workers, nodes);
+    let slow = workers - 1;
+    let stored = rng.word(2, nodes - 2);
+    for key in (1..=stored).rev() {
+        script.whole_call(0, ADD, 2 * key);
+    }
+    let operation = *rng.pick(&[ADD, REMOVE, CONTAINS, CONTAINS]);
+    script.start(slow, operation, 2 * stored + rng.word(0, 1));
+    let steps = rng.range(3, 9) as usize;
+    script.turns(slow, steps);
+    for key in 1..=stored {
+        if rng.chance(85) {
+            script.whole_call(0, REMOVE, 2 * key);
+        }
+    }
+    for _ in 0..nodes {
+        script.whole_call(0, ADD, rng.word(1, 2 * stored + 3));
+        if rng.chance(15) {
+            let step = rng.range(1, 4) as usize;
+            script.turns(slow, step);
+        }
+    }
+    script.finish(slow);
+    script.finish(0);
+    script.finish(slow);
+    script
+}
+
+/// A worker stops in the middle of a change, most often with a node taken but not yet linked,
+/// while another one far from it on the chain looks for a node.
+fn held_by_spare(rng: &mut Rng) -> Script {
+    let nodes = rng.word(5, 6);
+    let mut script = Script::new(rng.word(2, 4), nodes);
+    for key in [6, 3] {
+        script.whole_call(0, ADD, key);
+    }
+    script.start(0, *rng.pick(&[ADD, ADD, REMOVE]), rng.word(1, 3));
+    script.advance(0, *rng.pick(&[15, 15, 17, 18, 19]));
+    for _ in 0..rng.range(1, 3) {
+        script.whole_call(1, ADD, rng.word(7, 9));
+    }
+    script.finish(0);
+    script.finish(1);
+    script
+}
