@@ -1,0 +1,83 @@
+// The C interface: every entry point over lent 16-bit words, with its reply in one number. include/lazy_list.h declares it.
+ghost use mathlib.Core.Path.{_≡_};
+ghost use Prim.Native.Nat.{_/_};
+ghost use lib.ListN.{length};
+ghost use Rattle.arena.specs.Init.{initAnswer, initArena};
+ghost use Rattle.arena.specs.Start.{startAnswer, startArena};
+ghost use Rattle.arena.specs.Snapshot.{snapshotAnswer, snapshotWords};
+ghost use Rattle.lazy.specs.Turn.{turnAnswer, turnArena};
+ghost use Rattle.linear.specs.Linearizable.{Linearizable};
+ghost use Rattle.schedule.specs.Run.{entriesOf, callWidth, summaryReply, runAnswer, runArena, runWords};
+ghost use Rattle.capi.specs.Number.{replyNumber, bare, valuesOr};
+use schedule::Summary;
+
+mod number;
+
+// Lays a fresh arena.
+#[no_mangle]
+pub extern "C" fn lazy_list_init(arena: &mut [u16], workers: u16, nodes: u16) -> u32
+    ensures number { λ r. ⌜ r ≡ replyNumber (initAnswer (now (arena .entry)) workers nodes) ⌝ }
+    ensures words { λ _. ⌜ now (arena .exit) ≡ initArena (now (arena .entry)) workers nodes ⌝ }
+{
+    number::of_verdict(arena::init(arena, workers, nodes))
+}
+
+// Starts a call on a worker.
+#[no_mangle]
+pub extern "C" fn lazy_list_start(arena: &mut [u16], worker: u16, operation: u16, key: u16) -> u32
+    ensures number { λ r. ⌜ r ≡ replyNumber (startAnswer (now (arena .entry)) worker operation key) ⌝ }
+    ensures words { λ _. ⌜ now (arena .exit) ≡ startArena (now (arena .entry)) worker operation key ⌝ }
+{
+    number::of_verdict(arena::start(arena, worker, operation, key))
+}
+
+// Gives a worker a turn.
+#[no_mangle]
+pub extern "C" fn lazy_list_turn(arena: &mut [u16], worker: u16) -> u32
+    ensures number { λ r. ⌜ r ≡ replyNumber (turnAnswer (now (arena .entry)) worker) ⌝ }
+    ensures words { λ _. ⌜ now (arena .exit) ≡ turnArena (now (arena .entry)) worker ⌝ }
+{
+    number::of_outcome(lazy::turn(arena, worker))
+}
+
+// The keys on the chain, in chain order.
+#[no_mangle]
+pub extern "C" fn lazy_list_snapshot(arena: &[u16], keys: &mut [u16]) -> u32
+    ensures number { λ r. ⌜ r ≡ replyNumber (snapshotAnswer (now (arena .entry)) (length (now (keys .entry)))) ⌝ }
+    ensures words { λ _. ⌜ now (keys .exit) ≡ snapshotWords (now (arena .entry)) (now (keys .entry)) ⌝ }
+{
+    number::of_listing(arena::snapshot(arena, keys))
+}
+
+// Runs a schedule on an arena that it lays itself; the totals are entries, refused, waits, calls.
+#[no_mangle]
+pub extern "C" fn lazy_list_run(
+    arena: &mut [u16],
+    workers: u16,
+    nodes: u16,
+    schedule: &[u16],
+    history: &mut [u16],
+    totals: &mut [u16; 4],
+) -> u32
+    ensures number { λ r. ⌜ r ≡ replyNumber (bare
+        (runAnswer (now (arena .entry)) workers nodes (now (schedule .entry)) (length (now (history .entry)) / callWidth))) ⌝ }
+    ensures words { λ _. ⌜ now (arena .exit)
+        ≡ runArena (now (arena .entry)) workers nodes (now (schedule .entry)) (length (now (history .entry)) / callWidth) ⌝ }
+    ensures calls { λ _. ⌜ now (history .exit)
+        ≡ runWords (now (arena .entry)) workers nodes (now (schedule .entry)) (now (history .entry)) ⌝ }
+    ensures totals { λ _. ⌜ now (totals .exit) ≡ valuesOr (now (totals .entry))
+        (runAnswer (now (arena .entry)) workers nodes (now (schedule .entry)) (length (now (history .entry)) / callWidth)) ⌝ }
+    ensures linearizable { λ r. ⌜ (r ≡ 0 → Linearizable workers nodes (entriesOf (now (schedule .entry)))) ⌝ }
+{
+    let summary = schedule::run(arena, workers, nodes, schedule, history);
+    write_totals(totals, summary);
+    number::of_summary(summary)
+}
+
+fn write_totals(totals: &mut [u16; 4], summary: Summary)
+    ensures { λ _. ⌜ now (totals .exit) ≡ valuesOr (now (totals .entry)) (summaryReply summary) ⌝ }
+{
+    if let Summary::Done(done) = summary {
+        *totals = [done.entries, done.refused, done.waits, done.calls];
+    }
+}

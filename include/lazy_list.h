@@ -1,0 +1,91 @@
+/*
+ * A verified lazy list for label printers: a set of keys in lent 16-bit words, shared by up to eight workers.
+ *
+ * Every function is total: on words of any number and content it returns, reads and writes only the words lent to it, and a refused call
+ * changes none of them. crates/capi/src/lib.rt has the contracts, which are proved; the definitions that they cite are in the folders
+ * crates/NAME/specs. What the proofs cannot see is the caller's side. A C program must see to it that
+ *   - a pointer leads to as many words as the length beside it says, `totals` to four; also with length 0 it is not null;
+ *   - words lent to one call as different arguments do not overlap;
+ *   - nobody else reads or writes the words during the call: a function is one atomic step only where calls on one arena take turns.
+ * The library is compiled for x86-64 Linux, keeps nothing between calls, allocates nothing, takes less than 4 kB of stack, and of the C library
+ * wants memset alone.
+ *
+ * The arena, 8 + 8 W + 4 N words for W workers (1 to 8) and N nodes (3 to 1,024), counted from 0:
+ *   header, 8 words    layout (1), W, N, place of the worker records (8), place of the node records (8 + 8 W), total (8 + 8 W + 4 N), 0, 0
+ *   worker, 8 words    stage (0 to 25), operation (0 none), key, pred, curr, spare, answer (0 none), 0; pred, curr and spare are nodes
+ *   node, 4 words      key, next, mark (0 unmarked, anything else marked), owner (0 nobody, otherwise worker + 1)
+ * Node 0 is Head, node 1 is Tail, and 65,535 is no node. Words past the total are never touched.
+ *
+ * A reply is one number. Its lowest byte is 0, or the number of a refusal and then the whole reply.
+ */
+#ifndef LAZY_LIST_H
+#define LAZY_LIST_H
+
+#include <stddef.h>
+#include <stdint.h>
+
+#ifdef __cplusplus
+extern "C" {
+#endif
+
+/* Words of an arena. */
+#define LAZY_LIST_WORDS(workers, nodes) (8 + 8 * (size_t)(workers) + 4 * (size_t)(nodes))
+
+/* Refusals: the first that applies, in the order given at each function. */
+enum lazy_list_refusal {
+    LAZY_LIST_ACCEPTED = 0,
+    LAZY_LIST_SHORT_ARENA = 1,    /* fewer than 8 words, or than word 5 says; in init and run, fewer than the counts need */
+    LAZY_LIST_ODD_HEADER = 2,     /* the first 8 words are not the header of some W and N */
+    LAZY_LIST_NO_SUCH_WORKER = 3, /* a worker number of W or more */
+    LAZY_LIST_BUSY = 4,           /* the worker has a call that is not finished */
+    LAZY_LIST_BAD_CALL = 5,       /* an operation that is not 1 to 3, or key 0 or 65,535 */
+    LAZY_LIST_BROKEN_RECORD = 6,  /* a worker record that no turn can work on */
+    LAZY_LIST_BROKEN_CHAIN = 7,   /* a link to no node, or, in a snapshot, keys that do not rise */
+    LAZY_LIST_NO_ROOM = 8,        /* too few words lent for the keys or the calls */
+    LAZY_LIST_BAD_SCHEDULE = 9,   /* a length that is no multiple of 3, or above 12,000 words */
+    LAZY_LIST_BAD_COUNTS = 10     /* W or N out of range */
+};
+
+/* Operations of a call; keys are 1 to 65,534. */
+enum lazy_list_operation { LAZY_LIST_ADD = 1, LAZY_LIST_REMOVE = 2, LAZY_LIST_CONTAINS = 3 };
+
+/* What a turn reports, and what a call answers. */
+enum lazy_list_report { LAZY_LIST_IDLE = 0, LAZY_LIST_MOVED = 1, LAZY_LIST_WAITS = 2, LAZY_LIST_FINISHED = 3 };
+enum lazy_list_answer { LAZY_LIST_YES = 1, LAZY_LIST_NO = 2, LAZY_LIST_FULL = 3 };
+
+/* Read a reply: its refusal, or 0; of an accepted turn the report, and the stage moved to or the answer finished with; of an accepted
+ * snapshot the count of the keys. */
+#define LAZY_LIST_REFUSAL(reply) ((reply) % 256u)
+#define LAZY_LIST_REPORT(reply) ((reply) / 256u % 256u)
+#define LAZY_LIST_VALUE(reply) ((reply) / 65536u)
+#define LAZY_LIST_COUNT(reply) ((reply) / 256u)
+
+/* Lays a fresh arena: idle workers and an empty list. Words past its total stay. Refused with 10, 1. */
+uint32_t lazy_list_init(uint16_t *arena, size_t arena_length, uint16_t workers, uint16_t nodes);
+
+/* Starts a call on an idle worker. Refused with 1, 2, 3, 6, 4, 5. */
+uint32_t lazy_list_start(uint16_t *arena, size_t arena_length, uint16_t worker, uint16_t operation, uint16_t key);
+
+/* Gives a worker one turn: one step of its call, seen by all. A call is finished by the turn that reports LAZY_LIST_FINISHED. A turn that
+ * waits changes nothing; another worker must move on first. Refused with 1, 2, 3, 6, 7; with 6 or 7 never on an arena that init has laid
+ * and only start and turn have written. */
+uint32_t lazy_list_turn(uint16_t *arena, size_t arena_length, uint16_t worker);
+
+/* Writes the keys on the chain, in rising order, and counts them; words past them stay. A key whose node is marked but not unlinked yet is
+ * among them. Refused with 1, 2, 7, 8. */
+uint32_t lazy_list_snapshot(const uint16_t *arena, size_t arena_length, uint16_t *keys, size_t keys_length);
+
+/* Runs a schedule on an arena that it lays itself. An entry is three words: worker, act (0 turn, or an operation to start), key (not looked
+ * at for a turn). A refused entry is counted and the run goes on. Entries are counted from 1; the history gets seven words for each
+ * accepted start, in their order: worker, operation, key, start, point, finish, answer, where start, point and finish are numbers of
+ * entries, 0 stands for what was not reached, and words past the records stay. It needs room for a record to each entry with act 1 to 3.
+ * The totals are entries, refused, waits, calls. The calls in the order of their points are a run of a sequential set: that is proved.
+ * Refused with 10, 9, 1, 8. */
+uint32_t lazy_list_run(uint16_t *arena, size_t arena_length, uint16_t workers, uint16_t nodes, const uint16_t *schedule,
+                       size_t schedule_length, uint16_t *history, size_t history_length, uint16_t totals[4]);
+
+#ifdef __cplusplus
+}
+#endif
+
+#endif
