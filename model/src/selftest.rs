@@ -7,6 +7,7 @@ use crate::limits::CASES;
 use crate::linearizable::{check_times, explained};
 use crate::rng::Rng;
 use crate::run::Call;
+use crate::selftest_plain;
 use crate::selftest_refusals;
 use crate::selftest_words;
 use crate::sequential;
@@ -107,6 +108,7 @@ pub fn selftest() -> Checks {
     wrong_histories(&mut checks);
     selftest_refusals::refusals(&mut checks);
     selftest_words::any_words(&mut checks);
+    selftest_plain::plain_runs(&mut checks);
     checks
 }
 

@@ -1,0 +1,185 @@
+//! The run of a schedule and the snapshot as they would be written for use and not for checking:
+//! nothing is allocated, and no set is kept for looking back. The benchmark holds the proved
+//! library against these; the self test holds these against the traced run.
+
+use crate::arena::*;
+use crate::run::{Totals, MAX_SCHEDULE_WORDS};
+use crate::turn::{turn, Answer, Report};
+
+/// Words of an entry: worker, act, key.
+pub const ENTRY_WORDS: usize = 3;
+/// Words of a call in the history: worker, operation, key, start, point, finish, answer.
+pub const CALL_WORDS: usize = 7;
+
+// Places of the words of a call that are not known at its start.
+const POINT: usize = 4;
+const FINISH: usize = 5;
+const CALL_ANSWER: usize = 6;
+
+/// Runs a schedule on an arena that it inits itself; the history is in flat words, and records past
+/// the calls stay. Refusals 10, 9, 1, 8.
+pub fn run(
+    arena: &mut [u16],
+    workers: u16,
+    nodes: u16,
+    schedule: &[u16],
+    history: &mut [u16],
+) -> Result<Totals, u16> {
+    let shape = Shape::new(workers, nodes).ok_or(BAD_COUNTS)?;
+    if !schedule.len().is_multiple_of(ENTRY_WORDS) || schedule.len() > MAX_SCHEDULE_WORDS {
+        return Err(BAD_SCHEDULE);
+    }
+    if arena.len() < shape.total() {
+        return Err(SHORT_ARENA);
+    }
+    let is_start = |entry: &&[u16]| (ADD..=CONTAINS).contains(&entry[1]);
+    let starts = schedule.chunks_exact(ENTRY_WORDS).filter(is_start).count();
+    if starts > history.len() / CALL_WORDS {
+        return Err(NO_ROOM);
+    }
+    init(arena, workers, nodes)?;
+    let mut run = Run {
+        arena,
+        shape,
+        history,
+        totals: Totals::default(),
+        open: [OpenCall::default(); MAX_WORKERS as usize],
+    };
+    for entry in schedule.chunks_exact(ENTRY_WORDS) {
+        run.entry(entry[0], entry[1], entry[2]);
+    }
+    Ok(run.totals)
+}
+
+/// What is kept of a worker's call beside its record in the arena.
+#[derive(Clone, Copy, Default)]
+struct OpenCall {
+    /// Where its words begin in the history.
+    at: usize,
+    /// Of a contains, the first time at which its key was absent, or 0 up to then.
+    absent: u16,
+}
+
+struct Run<'a> {
+    arena: &'a mut [u16],
+    shape: Shape,
+    history: &'a mut [u16],
+    totals: Totals,
+    /// Only a worker that is not idle has an open call; what stands here for others is old.
+    open: [OpenCall; MAX_WORKERS as usize],
+}
+
+impl Run<'_> {
+    fn entry(&mut self, worker: u16, act: u16, key: u16) {
+        self.totals.entries += 1;
+        let done = if act == 0 {
+            self.turn_entry(worker)
+        } else {
+            self.start_entry(worker, act, key)
+        };
+        if done.is_err() {
+            self.totals.refused += 1;
+        }
+    }
+
+    /// The number of entries made so far.
+    fn time(&self) -> u16 {
+        self.totals.entries
+    }
+
+    fn start_entry(&mut self, worker: u16, operation: u16, key: u16) -> Result<(), u16> {
+        start(self.arena, worker, operation, key)?;
+        let time = self.time();
+        let at = CALL_WORDS * self.totals.calls as usize;
+        let words = [worker, operation, key, time, 0, 0, 0];
+        self.history[at..at + CALL_WORDS].copy_from_slice(&words);
+        self.totals.calls += 1;
+        let misses = operation == CONTAINS && !self.is_present(key);
+        let absent = if misses { time } else { 0 };
+        self.open[worker as usize] = OpenCall { at, absent };
+        Ok(())
+    }
+
+    fn turn_entry(&mut self, worker: u16) -> Result<(), u16> {
+        if worker >= self.shape.workers {
+            return Err(NO_SUCH_WORKER);
+        }
+        let stage = self.arena[self.shape.worker_at(worker) + STAGE];
+        match turn(self.arena, worker)? {
+            Report::Idle => {}
+            Report::Waits => self.totals.waits += 1,
+            Report::Moved(to) => self.moved(worker, stage, to),
+            Report::Finished(_) => {
+                let call = self.open[worker as usize].at;
+                self.history[call + FINISH] = self.time();
+            }
+        }
+        Ok(())
+    }
+
+    /// Where the move shows that an answer was decided, the call gets its point and answer.
+    fn moved(&mut self, worker: u16, stage: u16, to: u16) {
+        if !matches!((stage, to), (13..=15, 19) | (16, 17) | (23 | 25, 21)) {
+            return;
+        }
+        let at = self.shape.worker_at(worker);
+        let answer = self.arena[at + ANSWER];
+        if stage == 16 {
+            self.miss(self.arena[at + CALL_KEY]);
+        }
+        let OpenCall { at: call, absent } = self.open[worker as usize];
+        let looks_back = stage >= 23 && answer == Answer::No.number();
+        self.history[call + POINT] = if looks_back { absent } else { self.time() };
+        self.history[call + CALL_ANSWER] = answer;
+    }
+
+    /// The key has just left the set: an open contains that has not missed it yet misses it now.
+    fn miss(&mut self, key: u16) {
+        let time = self.time();
+        for worker in 0..self.shape.workers {
+            let at = self.shape.worker_at(worker);
+            let looks_for_it =
+                self.arena[at + OPERATION] == CONTAINS && self.arena[at + CALL_KEY] == key;
+            let call = &mut self.open[worker as usize];
+            if looks_for_it && call.absent == 0 {
+                call.absent = time;
+            }
+        }
+    }
+
+    /// Keys rise along the chain from Head's, below every call's key, to Tail's, above it.
+    fn is_present(&self, key: u16) -> bool {
+        let mut at = self.shape.node_at(HEAD);
+        while self.arena[at + KEY] < key {
+            at = self.shape.node_at(self.arena[at + NEXT]);
+        }
+        self.arena[at + KEY] == key && self.arena[at + MARK] == 0
+    }
+}
+
+/// Writes the keys between Head and Tail and gives their count. They are gathered aside, since a
+/// refusal writes nothing and a second walk would cost more than a copy. Refusals 1, 2, 7, 8.
+pub fn snapshot(arena: &[u16], out: &mut [u16]) -> Result<usize, u16> {
+    let shape = check_header(arena)?;
+    let mut keys = [0; MAX_NODES as usize];
+    let mut count = 0;
+    let mut last_key = arena[shape.node_at(HEAD) + KEY];
+    let mut node = arena[shape.node_at(HEAD) + NEXT];
+    // Keys must go up, so no node is met twice.
+    while node != TAIL {
+        if node >= shape.nodes {
+            return Err(BROKEN_CHAIN);
+        }
+        let key = arena[shape.node_at(node) + KEY];
+        if key <= last_key {
+            return Err(BROKEN_CHAIN);
+        }
+        keys[count] = key;
+        count += 1;
+        last_key = key;
+        node = arena[shape.node_at(node) + NEXT];
+    }
+    let room = out.get_mut(..count).ok_or(NO_ROOM)?;
+    room.copy_from_slice(&keys[..count]);
+    Ok(count)
+}

@@ -1,0 +1,54 @@
+//! The Rust side: what one would write for use, behind the same interface as the proved library.
+
+use model::plain;
+
+use crate::library::{Library, Model};
+
+/// Calls of the proved library cannot be inlined, so these are not either.
+pub struct PlainRust;
+
+impl Library for PlainRust {
+    #[inline(never)]
+    fn init(&self, arena: &mut [u16], workers: u16, nodes: u16) -> u32 {
+        Model.init(arena, workers, nodes)
+    }
+
+    #[inline(never)]
+    fn start(&self, arena: &mut [u16], worker: u16, operation: u16, key: u16) -> u32 {
+        Model.start(arena, worker, operation, key)
+    }
+
+    #[inline(never)]
+    fn turn(&self, arena: &mut [u16], worker: u16) -> u32 {
+        Model.turn(arena, worker)
+    }
+
+    /// Not the model's, which allocates.
+    #[inline(never)]
+    fn snapshot(&self, arena: &[u16], keys: &mut [u16]) -> u32 {
+        match plain::snapshot(arena, keys) {
+            Ok(count) => 256 * count as u32,
+            Err(refusal) => u32::from(refusal),
+        }
+    }
+
+    /// Not the model's, which keeps the set at every time.
+    #[inline(never)]
+    fn run(
+        &self,
+        arena: &mut [u16],
+        workers: u16,
+        nodes: u16,
+        schedule: &[u16],
+        history: &mut [u16],
+        totals: &mut [u16; 4],
+    ) -> u32 {
+        match plain::run(arena, workers, nodes, schedule, history) {
+            Ok(counts) => {
+                *totals = [counts.entries, counts.refused, counts.waits, counts.calls];
+                0
+            }
+            Err(refusal) => u32::from(refusal),
+        }
+    }
+}

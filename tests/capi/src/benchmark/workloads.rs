@@ -1,0 +1,138 @@
+//! The kinds of work that are timed.
+
+use model::arena::{NODE_WORDS, WORKER_WORDS};
+
+use crate::benchmark::measure::{Words, Workload};
+use crate::library::Library;
+
+/// Starts and turns one by one, as a print loop deals them.
+pub struct Entries {
+    pub words: Words,
+    /// Worker, act, key.
+    pub entries: Vec<[u16; 3]>,
+}
+
+impl Workload for Entries {
+    fn words(&self) -> &Words {
+        &self.words
+    }
+
+    fn operations(&self) -> usize {
+        self.entries.len()
+    }
+
+    fn pass<L: Library>(&self, library: &L, words: &mut Words, mut reply: impl FnMut(u32)) {
+        for &[worker, act, key] in &self.entries {
+            reply(match act {
+                0 => library.turn(&mut words.arena, worker),
+                operation => library.start(&mut words.arena, worker, operation, key),
+            });
+        }
+    }
+}
+
+/// The same turn of worker 0 again and again. Its record and one node are put back each time; both
+/// sides pay for that alike.
+pub struct SameTurn {
+    pub words: Words,
+    pub worker_at: usize,
+    pub node_at: usize,
+    pub repeats: usize,
+}
+
+impl Workload for SameTurn {
+    fn words(&self) -> &Words {
+        &self.words
+    }
+
+    fn operations(&self) -> usize {
+        self.repeats
+    }
+
+    fn pass<L: Library>(&self, library: &L, words: &mut Words, mut reply: impl FnMut(u32)) {
+        let worker = self.worker_at..self.worker_at + WORKER_WORDS;
+        let node = self.node_at..self.node_at + NODE_WORDS;
+        for _ in 0..self.repeats {
+            // Before the turn, so that what the last turn wrote is there to be compared.
+            let first = &self.words.arena;
+            words.arena[worker.clone()].copy_from_slice(&first[worker.clone()]);
+            words.arena[node.clone()].copy_from_slice(&first[node.clone()]);
+            reply(library.turn(&mut words.arena, 0));
+        }
+    }
+}
+
+/// Whole runs, each of another schedule and with a history of its own.
+pub struct Runs {
+    pub words: Words,
+    pub workers: u16,
+    pub nodes: u16,
+    pub schedules: Vec<Vec<u16>>,
+    pub history_words: usize,
+}
+
+impl Workload for Runs {
+    fn words(&self) -> &Words {
+        &self.words
+    }
+
+    fn operations(&self) -> usize {
+        self.schedules.len()
+    }
+
+    fn pass<L: Library>(&self, library: &L, words: &mut Words, mut reply: impl FnMut(u32)) {
+        let Words { arena, out, totals } = words;
+        let histories = out.chunks_exact_mut(self.history_words);
+        for (schedule, history) in self.schedules.iter().zip(histories) {
+            let (workers, nodes) = (self.workers, self.nodes);
+            reply(library.run(arena, workers, nodes, schedule, history, totals));
+            for total in *totals {
+                reply(total.into());
+            }
+        }
+    }
+}
+
+pub struct Inits {
+    pub words: Words,
+    pub workers: u16,
+    pub nodes: u16,
+    pub repeats: usize,
+}
+
+impl Workload for Inits {
+    fn words(&self) -> &Words {
+        &self.words
+    }
+
+    fn operations(&self) -> usize {
+        self.repeats
+    }
+
+    fn pass<L: Library>(&self, library: &L, words: &mut Words, mut reply: impl FnMut(u32)) {
+        for _ in 0..self.repeats {
+            reply(library.init(&mut words.arena, self.workers, self.nodes));
+        }
+    }
+}
+
+pub struct Snapshots {
+    pub words: Words,
+    pub repeats: usize,
+}
+
+impl Workload for Snapshots {
+    fn words(&self) -> &Words {
+        &self.words
+    }
+
+    fn operations(&self) -> usize {
+        self.repeats
+    }
+
+    fn pass<L: Library>(&self, library: &L, words: &mut Words, mut reply: impl FnMut(u32)) {
+        for _ in 0..self.repeats {
+            reply(library.snapshot(&words.arena, &mut words.out));
+        }
+    }
+}

@@ -1,0 +1,116 @@
+//! Times the proved library beside plain Rust. No limit is set: it fails only if the two differ.
+
+use std::process::ExitCode;
+
+use capi::benchmark::measure::{Measured, Times};
+use capi::benchmark::tables::{self, Operation, Row};
+
+const USAGE: &str = "usage: benchmark [--quick]";
+const ROUNDS: usize = 100;
+
+fn main() -> ExitCode {
+    let words: Vec<String> = std::env::args().skip(1).collect();
+    let words: Vec<&str> = words.iter().map(String::as_str).collect();
+    let rounds = match words[..] {
+        [] => ROUNDS,
+        ["--quick"] => ROUNDS / 10,
+        _ => {
+            eprintln!("{USAGE}");
+            return ExitCode::from(2);
+        }
+    };
+    let mut differences = Vec::new();
+    print_side_by_side(rounds, &mut differences);
+    print_by_nodes(rounds, &mut differences);
+    print_by_entries(rounds, &mut differences);
+    for difference in &differences {
+        println!("DIFFERENT: {difference}");
+    }
+    if differences.is_empty() {
+        ExitCode::SUCCESS
+    } else {
+        ExitCode::FAILURE
+    }
+}
+
+/// The times, or nothing and a line for the end.
+fn times(what: &str, measured: Measured, differences: &mut Vec<String>) -> Option<Times> {
+    measured
+        .map_err(|difference| differences.push(format!("{what}: {difference}")))
+        .ok()
+}
+
+fn print_side_by_side(rounds: usize, differences: &mut Vec<String>) {
+    let columns = ["proved (ns)", "Rust (ns)", "proved / Rust"];
+    let title = format!("best of {rounds} rounds");
+    println!("{title:<33}{}", headings(&columns));
+    let mut figures = Vec::new();
+    tables::side_by_side(rounds, &mut |row: Row| {
+        if let Some(whole) = times(row.what, row.measured, differences) {
+            let shown = match row.operation {
+                Operation::Run { entries } => whole.shared_by(entries),
+                Operation::Turn | Operation::Other => whole,
+            };
+            println!("{:<33}{}{:>15.2}", row.what, pair(shown), shown.ratio());
+            figures.extend(figure(row.what, &row.operation, whole));
+        }
+    });
+    println!("\n{}\n", figures.join("\n"));
+}
+
+/// The same times in another unit, where one is usual.
+fn figure(what: &str, operation: &Operation, whole: Times) -> Option<String> {
+    let Times { proved, rust } = whole;
+    match operation {
+        Operation::Turn => Some(format!(
+            "{what}: proved {:.1}, Rust {:.1} million a second",
+            1e3 / proved,
+            1e3 / rust
+        )),
+        Operation::Run { entries } => Some(format!(
+            "{what}: proved {:.1}, Rust {:.1} microseconds for a run of {entries}",
+            proved / 1e3,
+            rust / 1e3
+        )),
+        Operation::Other => None,
+    }
+}
+
+fn print_by_nodes(rounds: usize, differences: &mut Vec<String>) {
+    println!(
+        "{:<9}{:>30}{:>30}",
+        "", "ordinary turn", "stage 14, full chain"
+    );
+    let columns = ["proved (ns)", "Rust (ns)", "proved (ns)", "Rust (ns)"];
+    println!("{:<9}{}", "nodes", headings(&columns));
+    tables::by_nodes(rounds, &mut |nodes, [ordinary, search]| {
+        let what = format!("{nodes} nodes");
+        let ordinary = times(&format!("ordinary turn, {what}"), ordinary, differences);
+        let search = times(&format!("stage 14, {what}"), search, differences);
+        if let (Some(ordinary), Some(search)) = (ordinary, search) {
+            println!("{nodes:<9}{}{}", pair(ordinary), pair(search));
+        }
+    });
+    println!();
+}
+
+fn print_by_entries(rounds: usize, differences: &mut Vec<String>) {
+    println!("{:<9}{:>30}{:>30}", "", "a whole run", "an entry of it");
+    let columns = ["proved (ns)", "Rust (ns)", "proved (ns)", "Rust (ns)"];
+    println!("{:<9}{}", "entries", headings(&columns));
+    tables::by_entries(rounds, &mut |entries, measured| {
+        let what = format!("run of {entries} entries");
+        if let Some(whole) = times(&what, measured, differences) {
+            let part = whole.shared_by(entries);
+            println!("{entries:<9}{}{}", pair(whole), pair(part));
+        }
+    });
+}
+
+fn headings(columns: &[&str]) -> String {
+    columns.iter().map(|name| format!("{name:>15}")).collect()
+}
+
+fn pair(times: Times) -> String {
+    format!("{:>15.2}{:>15.2}", times.proved, times.rust)
+}

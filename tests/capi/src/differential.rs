@@ -1,0 +1,201 @@
+//! Goes through the arenas and compares a library with the model on each.
+
+mod arenas;
+mod comparer;
+mod coverage;
+mod damaged;
+mod lent;
+mod met;
+mod placed;
+mod reached;
+mod requests;
+mod schedules;
+pub mod tally;
+pub mod wrong;
+mod wrong_others;
+mod wrong_turns;
+
+use std::sync::atomic::{AtomicU64, Ordering};
+use std::thread;
+
+use model::arena::{check_header, MAX_NODES, STAGE};
+use model::rng::Rng;
+
+use crate::library::Library;
+use arenas::{Arenas, Kind};
+use comparer::{Comparer, Outcome};
+use requests::Request;
+use tally::Tally;
+
+const THREADS: usize = 2;
+/// Arenas of a block. One thread makes them in order, so that nothing depends on timing.
+const BLOCK: u64 = 1_000;
+
+pub struct Comparison<'a> {
+    pub library: &'a dyn Library,
+    pub seed: u64,
+    pub count: u64,
+}
+
+impl<'a> Comparison<'a> {
+    /// Goes through all arenas, two blocks at a time.
+    pub fn run(&self) -> Tally {
+        let next_block = AtomicU64::new(0);
+        let go_through = || {
+            let mut session = Session::new(self);
+            loop {
+                let block = next_block.fetch_add(1, Ordering::Relaxed);
+                if block * BLOCK >= self.count {
+                    return session.tally;
+                }
+                self.block(block, |number, arenas, rng| {
+                    session.arena(number, arenas, rng);
+                    true
+                });
+            }
+        };
+        let mut all = Tally::default();
+        thread::scope(|scope| {
+            let threads: Vec<_> = (0..THREADS).map(|_| scope.spawn(go_through)).collect();
+            for thread in threads {
+                all.merge(thread.join().expect("a comparing thread ends well"));
+            }
+        });
+        all
+    }
+
+    /// After how many arenas the first mismatch is found.
+    pub fn first_mismatch(&self) -> Option<u64> {
+        let mut session = Session::new(self);
+        let mut arenas_done = 0;
+        for block in 0..self.count.div_ceil(BLOCK) {
+            self.block(block, |number, arenas, rng| {
+                session.arena(number, arenas, rng);
+                arenas_done = number + 1;
+                session.tally.failed == 0
+            });
+            if session.tally.failed != 0 {
+                return Some(arenas_done);
+            }
+        }
+        None
+    }
+
+    /// One arena alone, for a closer look; those before it in its block are made all the same.
+    pub fn only(&self, wanted: u64) -> Tally {
+        let mut session = Session::new(self);
+        session.tells_all = true;
+        self.block(wanted / BLOCK, |number, arenas, rng| {
+            if number == wanted {
+                println!("number {number}, {}", Kind::of(number).name());
+                println!("{} words: {:?}", arenas.words.len(), arenas.words);
+                session.arena(number, arenas, rng);
+            }
+            number < wanted
+        });
+        session.tally
+    }
+
+    /// Makes the arenas of a block and shows each, as long as `go_on` wants more.
+    fn block(&self, block: u64, mut go_on: impl FnMut(u64, &Arenas, &mut Rng) -> bool) {
+        let mut arenas = Arenas::default();
+        for number in block * BLOCK..self.count.min((block + 1) * BLOCK) {
+            let mut rng = Rng::new(self.seed, number);
+            arenas.make(Kind::of(number), &mut rng);
+            if !go_on(number, &arenas, &mut rng) {
+                return;
+            }
+        }
+    }
+}
+
+/// What one thread works with.
+struct Session<'a> {
+    seed: u64,
+    comparer: Comparer<'a>,
+    tally: Tally,
+    /// Where the model writes keys when their number alone is wanted.
+    keys: Vec<u16>,
+    /// Whether every comparison is printed, and not only mismatches.
+    tells_all: bool,
+}
+
+impl<'a> Session<'a> {
+    fn new(comparison: &Comparison<'a>) -> Session<'a> {
+        Session {
+            seed: comparison.seed,
+            comparer: Comparer::new(comparison.library),
+            tally: Tally::default(),
+            keys: vec![0; MAX_NODES as usize],
+            tells_all: false,
+        }
+    }
+
+    /// Compares on one arena: turn (twice, since it has the most cases), start and snapshot always;
+    /// init and run, which do not look at what an arena holds, now and then.
+    fn arena(&mut self, number: u64, arenas: &Arenas, rng: &mut Rng) {
+        let words = &arenas.words;
+        self.tally.arena(Kind::of(number), words);
+        self.compare(number, words, &requests::turn(rng, arenas));
+        self.compare(number, words, &requests::turn(rng, arenas));
+        self.compare(number, words, &requests::start(rng, arenas));
+        let snapshot = requests::snapshot(rng, words, &mut self.keys);
+        self.compare(number, words, &snapshot);
+        if rng.chance(5) {
+            let (length, init) = requests::init(rng);
+            self.compare(number, &fitted(words, length), &init);
+        }
+        if rng.chance(20) {
+            let (length, run) = requests::run(rng);
+            self.compare(number, &fitted(words, length), &run);
+        }
+    }
+
+    fn compare(&mut self, number: u64, words: &[u16], request: &Request) {
+        let kind = Kind::of(number);
+        let outcome = self.comparer.compare(words, request);
+        let (reply, stage) = (outcome.model_reply, stage_before(words, request));
+        let coverage = &mut self.tally.coverage;
+        coverage.note(request.entry_point(), reply, stage, kind.is_reached());
+        let (history, totals) = self.comparer.last_run();
+        self.tally.met.note_reply(request, reply, history, totals);
+        if self.tells_all {
+            println!("{request}: the model's reply is {reply}");
+        }
+        self.tally.comparison(kind, outcome.is_same());
+        if !outcome.is_same() {
+            let seed = self.seed;
+            self.tally
+                .mismatch(number, || describe(seed, number, request, &outcome));
+        }
+    }
+}
+
+/// The arena's words cut off, or repeated, to the length that is wanted.
+fn fitted(words: &[u16], length: usize) -> Vec<u16> {
+    let repeated = words.iter().chain(&[7]).cycle();
+    repeated.take(length).copied().collect()
+}
+
+/// The stage of the worker that gets a turn; of no use if the turn is refused.
+fn stage_before(words: &[u16], request: &Request) -> u16 {
+    match (request, check_header(words)) {
+        (&Request::Turn { worker }, Ok(shape)) if worker < shape.workers => {
+            words[shape.worker_at(worker) + STAGE]
+        }
+        _ => 0,
+    }
+}
+
+/// A mismatch in one line; a long schedule is cut off, since `only` tells it whole.
+fn describe(seed: u64, number: u64, request: &Request, outcome: &Outcome) -> String {
+    let kind = Kind::of(number).name();
+    let request: String = request.to_string().chars().take(200).collect();
+    let (tested, model) = (outcome.tested_reply, outcome.model_reply);
+    let mut text = format!("--seed {seed} --only {number} ({kind}): {request}: ");
+    text += &format!("reply {tested}, the model's {model}");
+    if let Some(difference) = outcome.difference {
+        text += &format!("; {difference}");
+    }
+    text
+}

@@ -1,0 +1,128 @@
+//! Asks a library and the model the same, each on its own copy of the lent words.
+
+use super::lent::{difference, Difference, Lent};
+use super::requests::Request;
+use crate::library::{Library, Model};
+
+/// More words than any request lends besides the arena.
+const MOST_WORDS: usize = 30_000;
+
+/// What one library is lent.
+#[derive(Default)]
+struct Desk {
+    arena: Lent,
+    keys: Lent,
+    schedule: Lent,
+    history: Lent,
+    totals: Lent,
+}
+
+pub struct Comparer<'a> {
+    library: &'a dyn Library,
+    tested: Desk,
+    model: Desk,
+    /// What lent words hold before a library writes them: no two neighbours alike.
+    background: Vec<u16>,
+}
+
+pub struct Outcome {
+    pub tested_reply: u32,
+    pub model_reply: u32,
+    pub difference: Option<Difference>,
+}
+
+impl Outcome {
+    pub fn is_same(&self) -> bool {
+        self.tested_reply == self.model_reply && self.difference.is_none()
+    }
+}
+
+impl<'a> Comparer<'a> {
+    pub fn new(library: &'a dyn Library) -> Comparer<'a> {
+        Comparer {
+            library,
+            tested: Desk::default(),
+            model: Desk::default(),
+            background: (0..MOST_WORDS).map(|place| 40_000 - place as u16).collect(),
+        }
+    }
+
+    /// Compares replies and all lent words: also those that are only lent for reading.
+    pub fn compare(&mut self, arena: &[u16], request: &Request) -> Outcome {
+        let tested_reply = self
+            .tested
+            .ask(self.library, arena, request, &self.background);
+        let model_reply = self.model.ask(&Model, arena, request, &self.background);
+        let (tested, model) = (&self.tested, &self.model);
+        let mut first = difference("arena", &tested.arena, &model.arena);
+        if let Request::Snapshot { .. } = request {
+            first = first.or_else(|| difference("keys", &tested.keys, &model.keys));
+        }
+        if let Request::Run { .. } = request {
+            first = first
+                .or_else(|| difference("schedule", &tested.schedule, &model.schedule))
+                .or_else(|| difference("history", &tested.history, &model.history))
+                .or_else(|| difference("totals", &tested.totals, &model.totals));
+        }
+        Outcome {
+            tested_reply,
+            model_reply,
+            difference: first,
+        }
+    }
+
+    /// History and totals that the model wrote in the last run.
+    pub fn last_run(&self) -> (&[u16], &[u16]) {
+        (self.model.history.words(), self.model.totals.words())
+    }
+}
+
+impl Desk {
+    fn ask(
+        &mut self,
+        library: &dyn Library,
+        arena: &[u16],
+        request: &Request,
+        background: &[u16],
+    ) -> u32 {
+        self.arena.lend(arena);
+        match *request {
+            Request::Init { workers, nodes } => {
+                library.init(self.arena.words_mut(), workers, nodes)
+            }
+            Request::Start {
+                worker,
+                operation,
+                key,
+            } => library.start(self.arena.words_mut(), worker, operation, key),
+            Request::Turn { worker } => library.turn(self.arena.words_mut(), worker),
+            Request::Snapshot { room } => {
+                self.keys.lend(&background[..room]);
+                library.snapshot(self.arena.words(), self.keys.words_mut())
+            }
+            Request::Run {
+                workers,
+                nodes,
+                ref schedule,
+                room,
+            } => {
+                self.schedule.lend(schedule);
+                self.history.lend(&background[..room]);
+                self.totals.lend(&background[..4]);
+                self.run(library, workers, nodes)
+            }
+        }
+    }
+
+    fn run(&mut self, library: &dyn Library, workers: u16, nodes: u16) -> u32 {
+        let totals = self.totals.words_mut().try_into().expect("four words");
+        library.run(
+            self.arena.words_mut(),
+            workers,
+            nodes,
+            self.schedule.words(),
+            self.history.words_mut(),
+            totals,
+        )
+    }
+}

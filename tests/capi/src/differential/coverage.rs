@@ -1,0 +1,211 @@
+//! What the comparison must have met: every reply and every move that document 01 knows.
+
+use super::requests::EntryPoint;
+
+/// Two counts: on arenas reached from a fresh one, and on all others.
+type Counts = [u64; 2];
+
+/// The refusals of each entry point, in document 01's order.
+const REFUSALS: [(EntryPoint, &str, &[u32]); 5] = [
+    (EntryPoint::Init, "init", &[10, 1]),
+    (EntryPoint::Start, "start", &[1, 2, 3, 6, 4, 5]),
+    (EntryPoint::Turn, "turn", &[1, 2, 3, 6, 7]),
+    (EntryPoint::Snapshot, "snapshot", &[1, 2, 7, 8]),
+    (EntryPoint::Run, "run", &[10, 9, 1, 8]),
+];
+const ACCEPTED: u32 = 0;
+
+/// What no arena reached from a fresh one may meet. Document 01 says it of turns; for start and
+/// snapshot it follows, since stages stay in their range and keys rise along every chain.
+const NEVER_FROM_FRESH: [(EntryPoint, u32); 4] = [
+    (EntryPoint::Turn, 6),
+    (EntryPoint::Turn, 7),
+    (EntryPoint::Start, 6),
+    (EntryPoint::Snapshot, 7),
+];
+
+/// The stage table: from each stage the stages that a turn may lead to.
+const MOVES: [(usize, &[usize]); 24] = [
+    (1, &[2]),
+    (2, &[3]),
+    (3, &[4, 6]),
+    (4, &[5]),
+    (5, &[3]),
+    (6, &[7]),
+    (7, &[8]),
+    (8, &[9, 11]),
+    (9, &[10, 11]),
+    (10, &[13, 11]),
+    (11, &[12]),
+    (12, &[1]),
+    (13, &[14, 16, 19]),
+    (14, &[15, 19]),
+    (15, &[19]),
+    (16, &[17]),
+    (17, &[18]),
+    (18, &[19]),
+    (19, &[20]),
+    (20, &[21]),
+    (22, &[23]),
+    (23, &[24, 25, 21]),
+    (24, &[23]),
+    (25, &[21]),
+];
+
+// Places of the reports of a turn; 1 to 25 are moves to that stage.
+const IDLE: usize = 0;
+const WAITS: usize = 26;
+const FINISHED_YES: usize = 27;
+const FINISHED_NO: usize = 28;
+const FINISHED_FULL: usize = 29;
+/// The turns that do not move.
+const NO_MOVES: [(usize, usize); 6] = [
+    (0, IDLE),
+    (6, WAITS),
+    (7, WAITS),
+    (21, FINISHED_YES),
+    (21, FINISHED_NO),
+    (21, FINISHED_FULL),
+];
+
+#[derive(Default)]
+pub struct Coverage {
+    /// By entry point and refusal, 0 for accepted.
+    replies: [[Counts; 11]; 5],
+    /// By stage before the turn and report.
+    turns: [[Counts; 30]; 26],
+    /// Replies that cannot even be counted above.
+    unknown: u64,
+}
+
+impl Coverage {
+    /// Notes the model's reply; `stage` is where the worker of a turn stood.
+    pub fn note(&mut self, entry_point: EntryPoint, reply: u32, stage: u16, reached: bool) {
+        let column = usize::from(!reached);
+        let refusal = (reply % 256) as usize;
+        match self.replies[entry_point as usize].get_mut(refusal) {
+            Some(counts) => counts[column] += 1,
+            None => self.unknown += 1,
+        }
+        if entry_point == EntryPoint::Turn && refusal == 0 {
+            let counts = self.turns.get_mut(stage as usize);
+            match counts.and_then(|reports| reports.get_mut(report_place(reply / 256))) {
+                Some(counts) => counts[column] += 1,
+                None => self.unknown += 1,
+            }
+        }
+    }
+
+    pub fn merge(&mut self, other: &Coverage) {
+        let mine = self.replies.iter_mut().flatten().flatten();
+        let mine = mine.chain(self.turns.iter_mut().flatten().flatten());
+        let mine = mine.chain([&mut self.unknown]);
+        let theirs = other.replies.iter().flatten().flatten();
+        let theirs = theirs.chain(other.turns.iter().flatten().flatten());
+        let theirs = theirs.chain([&other.unknown]);
+        for (sum, more) in mine.zip(theirs) {
+            *sum += more;
+        }
+    }
+
+    /// Prints the tables and gives for each line whether it is as it must be.
+    pub fn print_and_check(&self) -> Vec<bool> {
+        let mut good = Vec::new();
+        heading("replies");
+        self.print_replies(&mut good);
+        heading("turns, by stage and report");
+        self.print_turns(&mut good);
+        good.push(self.unknown == 0);
+        if self.unknown != 0 {
+            println!("  {} replies of no known form  NOT ALLOWED", self.unknown);
+        }
+        good
+    }
+
+    fn print_replies(&self, good: &mut Vec<bool>) {
+        for (entry_point, name, allowed) in REFUSALS {
+            for refusal in 0..11 {
+                let counts = self.replies[entry_point as usize][refusal as usize];
+                let is_allowed = refusal == ACCEPTED || allowed.contains(&refusal);
+                let never = NEVER_FROM_FRESH.contains(&(entry_point, refusal));
+                let row = match refusal {
+                    ACCEPTED => format!("{name} accepted"),
+                    _ => format!("{name} refused {refusal}"),
+                };
+                let rule = Rule {
+                    allowed: [is_allowed && !never, is_allowed],
+                    // Arenas in use have nothing broken in them, so they need not meet all.
+                    missing: is_allowed && counts == [0, 0],
+                };
+                print_row(&row, counts, rule, good);
+            }
+        }
+    }
+
+    fn print_turns(&self, good: &mut Vec<bool>) {
+        for (stage, reports) in self.turns.iter().enumerate() {
+            for (report, &counts) in reports.iter().enumerate() {
+                let moves = |&(from, to): &(usize, &[usize])| from == stage && to.contains(&report);
+                let is_move = (1..=25).contains(&report) && MOVES.iter().any(moves);
+                let allowed = is_move || NO_MOVES.contains(&(stage, report));
+                let row = format!("{stage} {}", report_name(report));
+                let rule = Rule {
+                    allowed: [allowed; 2],
+                    missing: allowed && counts.contains(&0),
+                };
+                print_row(&row, counts, rule, good);
+            }
+        }
+    }
+}
+
+/// What a row of two counts must be.
+struct Rule {
+    /// Per column whether it may be met at all.
+    allowed: [bool; 2],
+    /// Whether something that must be met was not.
+    missing: bool,
+}
+
+/// Prints a row and pushes its check; a row that may not be met and was not is left out.
+fn print_row(row: &str, counts: Counts, rule: Rule, good: &mut Vec<bool>) {
+    let [reached, others] = counts;
+    let met_wrongly = (0..2).any(|column| counts[column] != 0 && !rule.allowed[column]);
+    if rule.allowed == [false; 2] && !met_wrongly {
+        return;
+    }
+    let note = match (met_wrongly, rule.missing) {
+        (true, _) => "  NOT ALLOWED",
+        (false, true) => "  NOT MET",
+        _ => "",
+    };
+    println!("  {row:35} {reached:10} {others:10}{note}");
+    good.push(note.is_empty());
+}
+
+fn heading(title: &str) {
+    println!("{title:37} {:>10} {:>10}", "from fresh", "others");
+}
+
+/// Where a report is counted: past the end for none of document 01's.
+fn report_place(values: u32) -> usize {
+    let value = (values / 256) as usize;
+    match (values % 256, value) {
+        (0, 0) => IDLE,
+        (1, 1..=25) => value,
+        (2, 0) => WAITS,
+        (3, 1..=3) => WAITS + value,
+        _ => usize::MAX,
+    }
+}
+
+fn report_name(report: usize) -> String {
+    match report {
+        IDLE => "idle".to_string(),
+        WAITS => "waits".to_string(),
+        FINISHED_YES => "finished yes".to_string(),
+        FINISHED_NO => "finished no".to_string(),
+        FINISHED_FULL => "finished full".to_string(),
+        stage => format!("to {stage}"),
+    }
+}

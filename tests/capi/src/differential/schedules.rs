@@ -1,0 +1,86 @@
+//! Schedules for runs, and room for their histories.
+
+use model::arena::*;
+use model::rng::Rng;
+use model::run::MAX_SCHEDULE_WORDS;
+
+use crate::library::CALL_WORDS;
+
+/// Words of an entry: worker, act, key.
+const ENTRY_WORDS: usize = 3;
+const MAX_ENTRIES: usize = MAX_SCHEDULE_WORDS / ENTRY_WORDS;
+
+/// Mostly short; a few just at the greatest length, just above it, or not whole entries.
+pub fn schedule(rng: &mut Rng, workers: u16) -> Vec<u16> {
+    let entries = match rng.range(0, 999) {
+        0..=199 => rng.index(12),
+        200..=899 => 12 + rng.index(110),
+        900..=989 => 120 + rng.index(280),
+        990..=993 => MAX_ENTRIES,
+        _ => MAX_ENTRIES + 1,
+    };
+    let mut words = Vec::with_capacity(ENTRY_WORDS * entries + ENTRY_WORDS);
+    let style = Style::new(rng, workers);
+    while words.len() < ENTRY_WORDS * entries {
+        style.burst(rng, &mut words);
+    }
+    words.truncate(ENTRY_WORDS * entries);
+    if rng.chance(6) {
+        words.resize(words.len() + 1 + rng.index(2), 0);
+    }
+    words
+}
+
+/// What the entries of one schedule have in common.
+struct Style {
+    workers: u16,
+    /// Keys of calls are mostly 1 to this one.
+    keys: u16,
+    longest_burst: u64,
+}
+
+impl Style {
+    fn new(rng: &mut Rng, workers: u16) -> Style {
+        Style {
+            workers: workers.clamp(1, MAX_WORKERS),
+            keys: rng.word(1, 4),
+            longest_burst: *rng.pick(&[3, 8, 18]),
+        }
+    }
+
+    /// A start and then turns of the same worker; mostly not as many as its call takes.
+    fn burst(&self, rng: &mut Rng, words: &mut Vec<u16>) {
+        let worker = if rng.chance(96) {
+            rng.word(0, self.workers - 1)
+        } else {
+            rng.word(0, 9)
+        };
+        if rng.chance(60) {
+            let act = *rng.pick(&[1, 1, 1, 1, 2, 2, 2, 3, 3, 3, 4, 5]);
+            let key = if rng.chance(95) {
+                rng.word(1, self.keys)
+            } else {
+                *rng.pick(&[0, 65_534, 65_535])
+            };
+            words.extend([worker, act, key]);
+        }
+        for _ in 0..rng.range(0, self.longest_burst) {
+            // The key of a turn is not looked at.
+            words.extend([worker, 0, rng.word(0, 65_535)]);
+        }
+    }
+}
+
+/// About as many words as the history needs: too few, exact, more, or not whole records.
+pub fn history_length(rng: &mut Rng, schedule: &[u16]) -> usize {
+    let is_start = |entry: &&[u16]| (ADD..=CONTAINS).contains(&entry[1]);
+    let starts = schedule.chunks_exact(ENTRY_WORDS).filter(is_start).count();
+    let needed = CALL_WORDS * starts;
+    match rng.range(0, 9) {
+        0..=3 => needed,
+        4..=5 => needed + CALL_WORDS * rng.index(4),
+        6..=7 => needed + rng.index(3 * CALL_WORDS),
+        8 => needed.saturating_sub(1),
+        _ => rng.index(needed + 1),
+    }
+}

@@ -1,0 +1,154 @@
+//! Libraries with one fault each. The comparison must tell every one of them from the model, or
+//! it would say nothing about the proved library either.
+
+use super::wrong_others::*;
+use super::wrong_turns::*;
+use super::Comparison;
+use crate::library::{Library, Model};
+
+/// Arenas that a wrong library gets at most.
+const COUNT: u64 = 50_000;
+
+type Run = fn(&mut [u16], u16, u16, &[u16], &mut [u16], &mut [u16; 4]) -> u32;
+
+/// The model with some entry points replaced.
+struct Wrong {
+    name: &'static str,
+    init: fn(&mut [u16], u16, u16) -> u32,
+    start: fn(&mut [u16], u16, u16, u16) -> u32,
+    turn: fn(&mut [u16], u16) -> u32,
+    snapshot: fn(&[u16], &mut [u16]) -> u32,
+    run: Run,
+}
+
+const RIGHT: Wrong = Wrong {
+    name: "none of them",
+    init: |arena, workers, nodes| Model.init(arena, workers, nodes),
+    start: |arena, worker, operation, key| Model.start(arena, worker, operation, key),
+    turn: |arena, worker| Model.turn(arena, worker),
+    snapshot: |arena, keys| Model.snapshot(arena, keys),
+    run: |arena, workers, nodes, schedule, history, totals| {
+        Model.run(arena, workers, nodes, schedule, history, totals)
+    },
+};
+
+const fn wrong_init(name: &'static str, init: fn(&mut [u16], u16, u16) -> u32) -> Wrong {
+    Wrong {
+        name,
+        init,
+        ..RIGHT
+    }
+}
+
+const fn wrong_start(name: &'static str, start: fn(&mut [u16], u16, u16, u16) -> u32) -> Wrong {
+    Wrong {
+        name,
+        start,
+        ..RIGHT
+    }
+}
+
+const fn wrong_turn(name: &'static str, turn: fn(&mut [u16], u16) -> u32) -> Wrong {
+    Wrong {
+        name,
+        turn,
+        ..RIGHT
+    }
+}
+
+const fn wrong_snapshot(name: &'static str, snapshot: fn(&[u16], &mut [u16]) -> u32) -> Wrong {
+    Wrong {
+        name,
+        snapshot,
+        ..RIGHT
+    }
+}
+
+const fn wrong_run(name: &'static str, run: Run) -> Wrong {
+    Wrong { name, run, ..RIGHT }
+}
+
+const WRONG: [Wrong; 22] = [
+    wrong_init("init writes a word past the total", init_past_total),
+    wrong_start("start writes a word too many", start_too_long),
+    wrong_start("start: bad call before busy", start_bad_call_first),
+    wrong_turn("turn: odd header before short arena", turn_header_first),
+    wrong_turn("turn: header word 7 not looked at", turn_seven_words),
+    wrong_turn("turn: worker W is there too", turn_one_more_worker),
+    wrong_turn("turn: broken chain before record", turn_chain_first),
+    wrong_turn("turn at 7 takes what is its own", turn_own_node),
+    wrong_turn("turn at 8 does not look at the mark", turn_no_mark),
+    wrong_turn("turn: only mark 1 is marked", turn_mark_one),
+    wrong_turn("turn at 14 looks at pred", turn_pred_at_14),
+    wrong_turn("turn takes the highest free node", turn_highest),
+    wrong_turn("turn: free is where nobody stands", turn_nobody_there),
+    wrong_turn("turn: what Tail leads to is free", turn_without_tail),
+    wrong_turn("turn follows 1,000 links only", turn_few_links),
+    wrong_turn("turn at 18 writes no link", turn_no_unlink),
+    wrong_turn("turn clears the eighth word", turn_eighth_word),
+    wrong_snapshot("snapshot skips the last key", snapshot_skips),
+    wrong_snapshot("snapshot writes without room", snapshot_no_room),
+    wrong_snapshot("snapshot looks at Tail's key", snapshot_tail_key),
+    wrong_run("run swaps waits and calls", run_swaps_totals),
+    wrong_run("run dates a no by its last reading", run_late_no),
+];
+
+impl Library for Wrong {
+    fn init(&self, arena: &mut [u16], workers: u16, nodes: u16) -> u32 {
+        (self.init)(arena, workers, nodes)
+    }
+
+    fn start(&self, arena: &mut [u16], worker: u16, operation: u16, key: u16) -> u32 {
+        (self.start)(arena, worker, operation, key)
+    }
+
+    fn turn(&self, arena: &mut [u16], worker: u16) -> u32 {
+        (self.turn)(arena, worker)
+    }
+
+    fn snapshot(&self, arena: &[u16], keys: &mut [u16]) -> u32 {
+        (self.snapshot)(arena, keys)
+    }
+
+    fn run(
+        &self,
+        arena: &mut [u16],
+        workers: u16,
+        nodes: u16,
+        schedule: &[u16],
+        history: &mut [u16],
+        totals: &mut [u16; 4],
+    ) -> u32 {
+        (self.run)(arena, workers, nodes, schedule, history, totals)
+    }
+}
+
+/// Tries every wrong library, and the model itself; gives for each whether it went as it should.
+pub fn check_all(seed: u64) -> Vec<bool> {
+    let first_mismatch = |library: &Wrong| {
+        let count = COUNT;
+        Comparison {
+            library,
+            seed,
+            count,
+        }
+        .first_mismatch()
+    };
+    let mut good = Vec::new();
+    for library in &WRONG {
+        let name = library.name;
+        let told = first_mismatch(library);
+        match told {
+            Some(arenas) => println!("wrong library {name}: told after {arenas} arenas"),
+            None => println!("wrong library {name}: NOT TOLD in {COUNT} arenas"),
+        }
+        good.push(told.is_some());
+    }
+    let complaint = first_mismatch(&RIGHT);
+    match complaint {
+        Some(arenas) => println!("the model itself: BLAMED after {arenas} arenas"),
+        None => println!("the model itself: no mismatch in {COUNT} arenas"),
+    }
+    good.push(complaint.is_none());
+    good
+}
