@@ -93,9 +93,18 @@ pub fn node_field(nodes: &[u16], width: u16, node: u16, field: u16) -> u16
     word(nodes, layout::slot(width, node, field))
 }
 
+// One test serves a node that lies inside whole.
 pub fn read_node(nodes: &[u16], width: u16, node: u16) -> Node
     ensures { λ r. ⌜ r ≡ nodeAt width (now (nodes .entry)) node ⌝ }
 {
+    if layout::slot(width, node, layout::NODE_OWNER) < nodes.len() {
+        return Node {
+            key: nodes[layout::slot(width, node, layout::NODE_KEY)],
+            next: nodes[layout::slot(width, node, layout::NODE_NEXT)],
+            mark: nodes[layout::slot(width, node, layout::NODE_MARK)],
+            owner: nodes[layout::slot(width, node, layout::NODE_OWNER)],
+        };
+    }
     Node {
         key: node_field(nodes, width, node, layout::NODE_KEY),
         next: node_field(nodes, width, node, layout::NODE_NEXT),

@@ -4,5 +4,6 @@ pub mod ShortRuns
 pub mod FreeLaws
 pub mod Walk
 pub mod Search
+pub mod SightLaws
 pub mod TurnLaws
 pub mod InsideLaws

@@ -2,3 +2,4 @@
 pub mod Free
 pub mod Row
 pub mod Turn
+pub mod Sight

@@ -6,6 +6,7 @@ ghost use Rattle.arena.specs.Layout.{workersOf};
 ghost use Rattle.arena.specs.Records.{workerAt, nodeAt};
 ghost use Rattle.arena.specs.Replies.{replied, accepted};
 ghost use Rattle.arena.specs.Header.{headerRefusals};
+ghost use Rattle.lazy.specs.Sight.{looksAtPred, looksAtCurr, lookedAt, sight};
 ghost use Rattle.lazy.specs.Turn.{outcomeReply, seenOf, seenBy, turnOn, withEffect, turnAnswer, turnArena};
 use arena::Verdict;
 use arena::layout;
@@ -61,10 +62,10 @@ fn turned(arena: &[u16], worker: u16) -> Turned
     state.turn(worker + 1, seen)
 }
 
-// What the turn of a worker sees.
+// What the turn of a worker looks at.
 fn see(arena: &[u16], state: Worker) -> Seen
     requires { ⌜ accepted [] ≡ replied (headerRefusals (now arena)) [] ⌝ }
-    ensures { λ r. ⌜ r ≡ seenBy (now (arena .entry)) state ⌝ }
+    ensures { λ r. ⌜ r ≡ sight state (seenBy (now (arena .entry)) state) ⌝ }
 {
     let from = words::word(arena, layout::NODES_FROM_AT) as usize;
     let total = words::word(arena, layout::TOTAL_AT) as usize;
@@ -76,11 +77,11 @@ fn see(arena: &[u16], state: Worker) -> Seen
 // The node records are handed on as their part of the arena. Only the stage that takes a free node looks for one.
 fn look(arena: &[u16], nodes: &[u16], width: u16, count: u16, state: Worker) -> Seen
     requires { ⌜ count ≤ 1024 ⌝ }
-    ensures { λ r. ⌜ r ≡ seenOf (workerAt (now (arena .entry))) (workersOf (now (arena .entry)))
-        (nodeAt width (now (nodes .entry))) count state ⌝ }
+    ensures { λ r. ⌜ r ≡ sight state (seenOf (workerAt (now (arena .entry))) (workersOf (now (arena .entry)))
+        (nodeAt width (now (nodes .entry))) count state) ⌝ }
 {
-    let pred = records::read_node(nodes, width, state.pred);
-    let curr = records::read_node(nodes, width, state.curr);
+    let pred = look_at_pred(nodes, width, state);
+    let curr = look_at_curr(nodes, width, state);
     if state.stage == Worker::TAKE_STAGE {
         let free = free::find_free(arena, nodes, width, count);
         return Seen {
@@ -95,6 +96,28 @@ fn look(arena: &[u16], nodes: &[u16], width: u16, count: u16, state: Worker) -> 
         pred,
         curr,
         free: Free::None,
+    }
+}
+
+fn look_at_pred(nodes: &[u16], width: u16, state: Worker) -> Node
+    ensures { λ r. ⌜ r ≡ lookedAt (looksAtPred (state .stage)) (nodeAt width (now (nodes .entry)) (state .pred)) ⌝ }
+{
+    let stage = state.stage;
+    match stage {
+        2 | 6 | 8 | 10 => records::read_node(nodes, width, state.pred),
+        _ => Node::unused(),
+    }
+}
+
+fn look_at_curr(nodes: &[u16], width: u16, state: Worker) -> Node
+    ensures { λ r. ⌜ r ≡ lookedAt (looksAtCurr (state .stage)) (nodeAt width (now (nodes .entry)) (state .curr)) ⌝ }
+{
+    let stage = state.stage;
+    match stage {
+        3 | 13 | 23 => records::read_node(nodes, width, state.curr),
+        5 | 17 | 24 => records::read_node(nodes, width, state.curr),
+        7 | 9 | 25 => records::read_node(nodes, width, state.curr),
+        _ => Node::unused(),
     }
 }
 

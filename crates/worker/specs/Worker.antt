@@ -1,6 +1,7 @@
 -- The worker record (document 01: stage, operation, key, pred, curr, spare, answer, 0), idle and started.
 use Prim.Native.Nat.{ℕ}
-use mathlib.Core.Bool.{Bool, cond, _&&_}
+use mathlib.Core.List.{List, [], _∷_}
+use mathlib.Core.Bool.{Bool, false, cond, _&&_, _||_}
 use lib.Dec.{leb, eqb}
 use Rattle.worker.specs.Node.{noNode}
 use Rattle.worker.specs.declared.Worker.{Worker}
@@ -25,6 +26,11 @@ lastStage = 25
 -- low ≤ n ≤ high
 abbrev pub within : ℕ → ℕ → ℕ → Bool
 within low high n = leb low n && leb n high
+
+-- a number that is one of these
+abbrev pub among : List ℕ → ℕ → Bool
+among [] n = false
+among (m ∷ ms) n = eqb m n || among ms n
 
 -- keys of calls are 1 to 65,534
 abbrev pub isKey : ℕ → Bool

@@ -1,7 +1,7 @@
 // The stages: what a turn does, line by line as document 01's table. The call's key is `self.key`, document 01's e.
 ghost use mathlib.Core.Path.{_≡_};
 ghost use mathlib.Core.Bool.{cond};
-ghost use Rattle.worker.specs.Stages.{withPred, withCurr, withSpare, withAnswer, reports, goes, to, locks, unlocks, denies, decides, takes, compares, stepOf};
+ghost use Rattle.worker.specs.Stages.{changed, withStage, withPred, withCurr, withSpare, withAnswer, reports, goes, to, locks, unlocks, denies, decides, takes, compares, stepOf};
 use crate::Node;
 use crate::Worker;
 use crate::report::Answer;
@@ -52,35 +52,52 @@ impl Worker {
         }
     }
 
-    fn with_pred(mut self, node: u16) -> Worker
+    fn changed(self, stage: u16, pred: u16, curr: u16, spare: u16, answer: u16) -> Worker
+        ensures { λ r. ⌜ r ≡ changed self stage pred curr spare answer ⌝ }
+    {
+        Worker {
+            stage,
+            operation: self.operation,
+            key: self.key,
+            pred,
+            curr,
+            spare,
+            answer,
+            reserved: self.reserved,
+        }
+    }
+
+    fn with_stage(self, stage: u16) -> Worker
+        ensures { λ r. ⌜ r ≡ withStage self stage ⌝ }
+    {
+        self.changed(stage, self.pred, self.curr, self.spare, self.answer)
+    }
+
+    fn with_pred(self, node: u16) -> Worker
         ensures { λ r. ⌜ r ≡ withPred self node ⌝ }
     {
-        self.pred = node;
-        self
+        self.changed(self.stage, node, self.curr, self.spare, self.answer)
     }
 
-    fn with_curr(mut self, node: u16) -> Worker
+    fn with_curr(self, node: u16) -> Worker
         ensures { λ r. ⌜ r ≡ withCurr self node ⌝ }
     {
-        self.curr = node;
-        self
+        self.changed(self.stage, self.pred, node, self.spare, self.answer)
     }
 
-    fn with_spare(mut self, node: u16) -> Worker
+    fn with_spare(self, node: u16) -> Worker
         ensures { λ r. ⌜ r ≡ withSpare self node ⌝ }
     {
-        self.spare = node;
-        self
+        self.changed(self.stage, self.pred, self.curr, node, self.answer)
     }
 
-    fn with_answer(mut self, answer: u16) -> Worker
+    fn with_answer(self, answer: u16) -> Worker
         ensures { λ r. ⌜ r ≡ withAnswer self answer ⌝ }
     {
-        self.answer = answer;
-        self
+        self.changed(self.stage, self.pred, self.curr, self.spare, answer)
     }
 
-    fn reports(self, report: Report) -> Step
+    pub(crate) fn reports(self, report: Report) -> Step
         ensures { λ r. ⌜ r ≡ reports self report ⌝ }
     {
         Step {
@@ -90,12 +107,12 @@ impl Worker {
         }
     }
 
-    fn goes(mut self, stage: u16, effect: Effect) -> Step
+    fn goes(self, stage: u16, effect: Effect) -> Step
         ensures { λ r. ⌜ r ≡ goes self stage effect ⌝ }
     {
-        self.stage = stage;
+        let next = self.with_stage(stage);
         Step {
-            worker: self,
+            worker: next,
             report: Report::Moved(stage),
             effect,
         }

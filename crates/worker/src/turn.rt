@@ -1,11 +1,12 @@
 // A worker's turn: the refusals of its record and of the chain, else the step of its stage.
 ghost use mathlib.Core.Path.{_≡_};
 ghost use Prim.Native.Nat.{_≤_};
-ghost use Rattle.worker.specs.Turn.{belongs, kept, readsPred, readsCurr, readsSpare, placed, astray, turnOf};
+ghost use Rattle.worker.specs.Turn.{belongs, kept, placed, astray, turnOf};
 use crate::Worker;
 use crate::is_key;
 use crate::is_within;
 use crate::refusal;
+use crate::report::Report;
 use crate::report::Seen;
 use crate::report::Turned;
 
@@ -16,7 +17,7 @@ impl Worker {
     {
         let stage = self.stage;
         match stage {
-            0 => Turned::Done(self.step(owner, seen)),
+            0 => Turned::Done(self.reports(Report::Idle)),
             1..=25 => self.busy_turn(owner, seen),
             26..=65535 => Turned::Refused(refusal::BROKEN_RECORD),
         }
@@ -51,11 +52,22 @@ impl Worker {
 
     // The node numbers that the stage reads.
     fn is_placed(self, nodes: u16) -> bool
+        requires { ⌜ 1 ≤ self .stage ⌝ }
+        requires { ⌜ self .stage ≤ 25 ⌝ }
         ensures { λ r. ⌜ r ≡ placed self nodes ⌝ }
     {
-        (!reads_pred(self.stage) | (self.pred < nodes))
-            & (!reads_curr(self.stage) | (self.curr < nodes))
-            & (!reads_spare(self.stage) | (self.spare < nodes))
+        let stage = self.stage;
+        let pred = self.pred < nodes;
+        let curr = self.curr < nodes;
+        let spare = self.spare < nodes;
+        match stage {
+            2 | 6 | 8 | 11 | 19 => pred,
+            10 => pred & curr,
+            15 | 18 => pred & spare,
+            1 | 21 => true,
+            22 => true,
+            _ => curr,
+        }
     }
 
     // A link that the stage follows leads past the nodes.
@@ -63,8 +75,11 @@ impl Worker {
         ensures { λ r. ⌜ r ≡ astray self seen ⌝ }
     {
         let stage = self.stage;
-        ((stage == 2) & (seen.count <= seen.pred.next))
-            | (((stage == 5) | (stage == 17) | (stage == 24)) & (seen.count <= seen.curr.next))
+        match stage {
+            2 => seen.count <= seen.pred.next,
+            5 | 17 | 24 => seen.count <= seen.curr.next,
+            _ => false,
+        }
     }
 }
 
@@ -80,28 +95,4 @@ fn operation_belongs(stage: u16, operation: u16) -> bool
         22..=25 => operation == Worker::CONTAINS,
         _ => false,
     }
-}
-
-fn reads_pred(s: u16) -> bool
-    ensures { λ r. ⌜ r ≡ readsPred s ⌝ }
-{
-    (s == 2) | (s == 6) | (s == 8) | ((10 <= s) & (s <= 11)) | (s == 15) | ((18 <= s) & (s <= 19))
-}
-
-fn reads_curr(s: u16) -> bool
-    ensures { λ r. ⌜ r ≡ readsCurr s ⌝ }
-{
-    ((3 <= s) & (s <= 5))
-        | (s == 7)
-        | ((9 <= s) & (s <= 10))
-        | ((12 <= s) & (s <= 14))
-        | ((16 <= s) & (s <= 17))
-        | (s == 20)
-        | ((23 <= s) & (s <= 25))
-}
-
-fn reads_spare(s: u16) -> bool
-    ensures { λ r. ⌜ r ≡ readsSpare s ⌝ }
-{
-    (s == 15) | (s == 18)
 }

@@ -11,6 +11,7 @@ use Rattle.arena.specs.Header.{headerRefusals}
 use Rattle.arena.proofs.HeaderLaws.{header-holds}
 use Rattle.arena.proofs.Judged.{refused-first, accepted-first}
 use Rattle.lazy.specs.Turn.{workerRefusals, turnOn}
+use Rattle.lazy.proofs.SightLaws.{sight-enough}
 use Rattle.lazy.proofs.turned.Statement.{statement}
 use Rattle.lazy.proofs.turned.Tie as tie
 
@@ -52,6 +53,7 @@ own c =
       lt-leb _ _ (c .before .before .before .if1 .left),
       c .turn .ensures,
       c .before .see .ensures,
+      sight-enough,
       c .before .before .read-worker .ensures,
       add-one,
     )

@@ -4,9 +4,19 @@ use Rattle.arena.specs.Records.{nodeAt}
 use Rattle.arena.proofs.records.read_node.Statement.{statement}
 use Rattle.arena.proofs.records.read_node.Tie as tie
 
-returns : tie.Need-returns
+inside : tie.Need-returns
 unfolding nodeAt
-returns c =
+inside c =
+    rw (
+      c .before .slot5 .ensures,
+      c .before .before .before .slot4 .ensures,
+      c .before .before .before .before .before .slot3 .ensures,
+      c .before .before .before .before .before .before .before .slot2 .ensures,
+    )
+
+outside : tie.Need-returns-2
+unfolding nodeAt
+outside c =
     rw (
       c .node-field4 .ensures,
       c .before .node-field3 .ensures,
@@ -16,4 +26,4 @@ returns c =
 
 pub read-node-spec : {M : Type 1} → statement M
 read-node-spec =
-    tie.close (tie.spec (search needs) (search needs) (search needs) (search needs) returns)
+    tie.close (tie.spec (search needs) (search needs) (search needs) (search needs) (search needs) (search needs) (search needs) (search needs) (search needs) (search needs) (search needs) (search needs) (search needs) inside (search needs) (search needs) (search needs) (search needs) outside)

@@ -2,13 +2,14 @@
 use native.Mathlib.Omega.{arith}
 use borrow.Author.Needs.{needs}
 use borrow.Author.Tests.{ne-eqb, lt-ltb}
+use Rattle.worker.specs.Stages.{stepOf}
 use Rattle.worker.specs.Turn.{turnOf, turnRefusals, busyRefusals}
 use Rattle.worker.proofs.Worker.turn.Statement.{statement}
 use Rattle.worker.proofs.Worker.turn.Tie as tie
 
 idle : tie.Need-returns
-unfolding turnOf turnRefusals
-idle c = rw (c .step .ensures, c .before .match .keys1)
+unfolding turnOf turnRefusals stepOf
+idle c = rw (c .before .match .keys1, c .reports .ensures)
 
 busy : tie.Need-returns-2
 busy c = c .busy-turn .ensures
