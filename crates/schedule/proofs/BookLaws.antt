@@ -3,9 +3,12 @@ use Prim.Native.Nat.{ℕ}
 use mathlib.Core.Path.{_≡_, refl, sym, ap}
 use mathlib.Core.Logic.{_≢_}
 use mathlib.Core.List.{List, []}
+use mathlib.Core.Bool.{Bool, true, false, cond}
 use lib.ListN.{getD}
 use borrow.Author.Tests.{ne-eqb}
+use Rattle.worker.specs.declared.Worker.{Worker}
 use Rattle.worker.specs.declared.report.Report.{Report}
+use Rattle.arena.specs.Layout.{workersOf}
 use Rattle.arena.specs.Records.{workerAt}
 use Rattle.arena.specs.Replies.{refused, accepted}
 use Rattle.arena.specs.Start.{startRefusals, startAnswer, startArena}
@@ -17,7 +20,22 @@ use Rattle.lazy.proofs.TurnLaws.{answer-told}
 use Rattle.linear.specs.Entries.{Event, callStarted, entryRefused, turnEvent, eventOf, after}
 use Rattle.schedule.specs.declared.book.Book.{Book}
 use Rattle.schedule.specs.Run.{entryOf}
-use Rattle.schedule.specs.Book.{newCall, withCall, withRefusal, withStart, absentFrom, turnBook, withFinish, withDecision, nextBook, nextWords, bookAfter, wordsAfter}
+use Rattle.schedule.specs.Book.{newCall, withCall, withRefusal, withStart, absentFrom, takesOut, withAbsent, missed, waitBook, turnBook, withFinish, withDecision, nextBook, nextWords, bookAfter, wordsAfter}
+
+-- a turn opens no call
+pub turn-opened : (book : Book) (arena : List ℕ) (before after : Worker) (report : Report) (time : ℕ) →
+    turnBook book arena before after report time .opened ≡ book .opened
+unfolding turnBook
+turn-opened book arena before after report time = go (takesOut before after)
+  where
+    waited : Book
+    waited = waitBook book report
+
+    go : (takes : Bool) →
+        cond takes (withAbsent waited (missed (workerAt arena) (workersOf arena) (before .key) time (waited .absent))) waited .opened
+        ≡ book .opened
+    go true = refl
+    go false = refl
 
 module _ (arena : List ℕ) (worker : ℕ) where
   -- a turn, whatever the key of its entry

@@ -4,6 +4,7 @@ ghost use mathlib.Core.Logic.{_≢_};
 ghost use mathlib.Core.List.{[]};
 ghost use mathlib.Core.Bool.{false};
 ghost use Prim.Native.Nat.{ℕ, _<_};
+ghost use lib.ListN.{getD};
 ghost use Rattle.arena.specs.Replies.{accepted, replied};
 ghost use Rattle.arena.specs.Header.{headerRefusals};
 ghost use Rattle.linear.specs.Entries.{turnReported, isWaits, isFinished, after};
@@ -49,11 +50,13 @@ fn is_finished(report: Report) -> bool
 fn decides(stage: u16, answer: u16) -> bool
     ensures { λ r. ⌜ r ≡ decides stage answer ⌝ }
 {
-    ((stage == 13) & (answer == Answer::NO))
-        | ((stage == 14) & (answer == Answer::FULL))
-        | ((15 <= stage) & (stage <= 16))
-        | ((stage == 23) & (answer == Answer::NO))
-        | (stage == 25)
+    match stage {
+        13 | 23 => answer == Answer::NO,
+        14 => answer == Answer::FULL,
+        15 | 25 => true,
+        16 => true,
+        _ => false,
+    }
 }
 
 // A decided answer's point: the time of the turn, but for a contains that answers no.
@@ -67,10 +70,11 @@ fn point_of(operation: u16, answer: u16, absent: u16, time: u16) -> u16
     }
 }
 
-fn note_finish(history: &mut [u16], number: u16, report: Report, time: u16)
-    ensures { λ _. ⌜ now (history .exit) ≡ withFinish (now (history .entry)) number report time ⌝ }
+fn note_finish(history: &mut [u16], book: Book, worker: u16, report: Report, time: u16)
+    ensures { λ _. ⌜ now (history .exit) ≡ withFinish (now (history .entry)) (getD (book .opened) worker 0) report time ⌝ }
 {
     if is_finished(report) {
+        let number = book.open_call(worker);
         let call = calls::read_call(history, number);
         calls::write_call(history, number, call.finished(time));
     }
@@ -78,15 +82,18 @@ fn note_finish(history: &mut [u16], number: u16, report: Report, time: u16)
 
 fn note_decision(
     history: &mut [u16],
-    number: u16,
+    book: Book,
+    worker: u16,
     before: Worker,
     after: Worker,
-    absent: u16,
     time: u16,
 )
-    ensures { λ _. ⌜ now (history .exit) ≡ withDecision (now (history .entry)) number before after absent time ⌝ }
+    ensures { λ _. ⌜ now (history .exit) ≡ withDecision (now (history .entry)) (getD (book .opened) worker 0) before after
+        (getD (book .absent) worker 0) time ⌝ }
 {
     if decides(before.stage, after.answer) {
+        let number = book.open_call(worker);
+        let absent = book.absent_time(worker);
         let point = point_of(before.operation, after.answer, absent, time);
         let call = calls::read_call(history, number);
         calls::write_call(history, number, call.decided(point, after.answer));
@@ -143,16 +150,8 @@ fn enter_turn(arena: &mut [u16], history: &mut [u16], book: Book, time: u16, wor
         Outcome::Reported(report) => {
             let after = records::read_worker(arena, worker);
             let next = book_turn(book, arena, before, after, report, time);
-            let number = book.open_call(worker);
-            note_finish(history, number, report, time);
-            note_decision(
-                history,
-                number,
-                before,
-                after,
-                next.absent_time(worker),
-                time,
-            );
+            note_finish(history, next, worker, report, time);
+            note_decision(history, next, worker, before, after, time);
             next
         }
     }

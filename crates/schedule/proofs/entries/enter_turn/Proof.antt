@@ -3,7 +3,7 @@ use mathlib.Core.Path.{sym, ap, _∙_}
 use denote.Ref.{now}
 use borrow.Author.Needs.{needs}
 use Rattle.lazy.specs.Turn.{outcomeReply}
-use Rattle.schedule.proofs.BookLaws.{turn-arena, after-refused-turn, after-turn}
+use Rattle.schedule.proofs.BookLaws.{turn-arena, turn-opened, after-refused-turn, after-turn}
 use Rattle.schedule.proofs.entries.enter_turn.Statement.{statement}
 use Rattle.schedule.proofs.entries.enter_turn.Tie as tie
 
@@ -19,7 +19,7 @@ refused c =
 
 reported : tie.Need-returns-2
 reported c =
-    let booked = c .before .before .before .before .before .before .before .before .before .before in
+    let booked = c .before .before .before .before .before .before .before .before in
     let answer = booked .before .before .before .before in
     let turn = answer .before .before .before .before .before .turn in
     let args = answer .before .before .before .before .before .before .before .before .before .before .before .args in
@@ -30,10 +30,9 @@ reported c =
       (
         λ key. rw (
           c .before .before .note-decision .ensures,
-          c .before .before .before .before .before .before .before .note-finish .ensures,
-          c .before .before .before .before .before .before .before .before .before .open-call .ensures,
-          c .before .before .before .absent-time .ensures,
+          c .before .before .before .before .before .before .note-finish .ensures,
           booked .book-turn .ensures,
+          turn-opened,
           booked .before .before .read-worker2 .ensures,
           answer .before .before .before .before .before .before .before .read-worker .ensures,
           turn .ensures .1,
@@ -50,5 +49,4 @@ reported c =
 pub enter-turn-spec : {M : Type 1} → statement M
 enter-turn-spec =
     tie.close
-    (tie.spec (search needs) (search needs) (search needs) (search needs) (search needs) (search needs) (search needs) (search needs)
-    (search needs) (search needs) (search needs) (search needs) refused (search needs) (search needs) reported)
+    (tie.spec (search needs) (search needs) (search needs) (search needs) (search needs) (search needs) (search needs) (search needs) (search needs) (search needs) refused (search needs) (search needs) reported)

@@ -12,8 +12,10 @@ decided c =
       c .before .before .before .decided .ensures,
       c .before .before .before .before .before .read-call .ensures,
       c .before .before .before .before .before .before .before .point-of .ensures,
-      ← c .before .before .before .before .before .before .before .before .before .decides .ensures,
-      c .before .before .before .before .before .before .before .before .if1 .taken,
+      c .before .before .before .before .before .before .before .before .absent-time .ensures,
+      c .before .before .before .before .before .before .before .before .before .open-call .ensures,
+      ← c .before .before .before .before .before .before .before .before .before .before .before .decides .ensures,
+      c .before .before .before .before .before .before .before .before .before .before .if1 .taken,
     )
 
 stays : tie.Need-returns-2
@@ -22,4 +24,4 @@ stays c = rw (← c .before .decides .ensures, c .if1 .left)
 
 pub note-decision-spec : {M : Type 1} → statement M
 note-decision-spec =
-    tie.close (tie.spec (search needs) (search needs) (search needs) (search needs) (search needs) (search needs) decided stays)
+    tie.close (tie.spec (search needs) (search needs) (search needs) (search needs) (search needs) (search needs) (search needs) (search needs) decided stays)

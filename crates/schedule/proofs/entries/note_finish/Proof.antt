@@ -11,8 +11,9 @@ finished c =
       c .before .before .write-call .ensures,
       c .before .before .before .finished .ensures,
       c .before .before .before .before .before .read-call .ensures,
-      ← c .before .before .before .before .before .before .before .before .is-finished .ensures,
-      c .before .before .before .before .before .before .before .if1 .taken,
+      c .before .before .before .before .before .before .before .open-call .ensures,
+      ← c .before .before .before .before .before .before .before .before .before .is-finished .ensures,
+      c .before .before .before .before .before .before .before .before .if1 .taken,
     )
 
 stays : tie.Need-returns-2
@@ -20,4 +21,4 @@ unfolding withFinish
 stays c = rw (← c .before .is-finished .ensures, c .if1 .left)
 
 pub note-finish-spec : {M : Type 1} → statement M
-note-finish-spec = tie.close (tie.spec (search needs) (search needs) (search needs) (search needs) (search needs) finished stays)
+note-finish-spec = tie.close (tie.spec (search needs) (search needs) (search needs) (search needs) (search needs) (search needs) finished stays)
