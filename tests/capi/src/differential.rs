@@ -42,14 +42,14 @@ impl<'a> Comparison<'a> {
     pub fn run(&self) -> Tally {
         let next_block = AtomicU64::new(0);
         let go_through = || {
-            let mut session = Session::new(self);
+            let mut examiner = Examiner::new(self);
             loop {
                 let block = next_block.fetch_add(1, Ordering::Relaxed);
                 if block * BLOCK >= self.count {
-                    return session.tally;
+                    return examiner.tally;
                 }
                 self.block(block, |number, arenas, rng| {
-                    session.arena(number, arenas, rng);
+                    examiner.arena(number, arenas, rng);
                     true
                 });
             }
@@ -66,15 +66,15 @@ impl<'a> Comparison<'a> {
 
     /// After how many arenas the first mismatch is found.
     pub fn first_mismatch(&self) -> Option<u64> {
-        let mut session = Session::new(self);
+        let mut examiner = Examiner::new(self);
         let mut arenas_done = 0;
         for block in 0..self.count.div_ceil(BLOCK) {
             self.block(block, |number, arenas, rng| {
-                session.arena(number, arenas, rng);
+                examiner.arena(number, arenas, rng);
                 arenas_done = number + 1;
-                session.tally.failed == 0
+                examiner.tally.failed == 0
             });
-            if session.tally.failed != 0 {
+            if examiner.tally.failed != 0 {
                 return Some(arenas_done);
             }
         }
@@ -83,17 +83,17 @@ impl<'a> Comparison<'a> {
 
     /// One arena alone, for a closer look; those before it in its block are made all the same.
     pub fn only(&self, wanted: u64) -> Tally {
-        let mut session = Session::new(self);
-        session.tells_all = true;
+        let mut examiner = Examiner::new(self);
+        examiner.tells_all = true;
         self.block(wanted / BLOCK, |number, arenas, rng| {
             if number == wanted {
                 println!("number {number}, {}", Kind::of(number).name());
                 println!("{} words: {:?}", arenas.words.len(), arenas.words);
-                session.arena(number, arenas, rng);
+                examiner.arena(number, arenas, rng);
             }
             number < wanted
         });
-        session.tally
+        examiner.tally
     }
 
     /// Makes the arenas of a block and shows each, as long as `go_on` wants more.
@@ -110,7 +110,7 @@ impl<'a> Comparison<'a> {
 }
 
 /// What one thread works with.
-struct Session<'a> {
+struct Examiner<'a> {
     seed: u64,
     comparer: Comparer<'a>,
     tally: Tally,
@@ -120,9 +120,9 @@ struct Session<'a> {
     tells_all: bool,
 }
 
-impl<'a> Session<'a> {
-    fn new(comparison: &Comparison<'a>) -> Session<'a> {
-        Session {
+impl<'a> Examiner<'a> {
+    fn new(comparison: &Comparison<'a>) -> Examiner<'a> {
+        Examiner {
             seed: comparison.seed,
             comparer: Comparer::new(comparison.library),
             tally: Tally::default(),
