@@ -1,11 +1,11 @@
 -- Laws of a fresh arena.
-use Prim.Native.Nat.{ℕ, _-_, _≤_}
+use Prim.Native.Nat.{ℕ, _*_, _-_, _≤_}
 use mathlib.Core.Path.{_≡_, refl}
-use mathlib.Core.List.{List, [], _++_}
+use mathlib.Core.List.{List, [], _++_, flatten}
 use mathlib.Core.Bool.{true}
 use native.Mathlib.Omega.{arith}
 use native.Mathlib.Nat.{zero-add}
-use lib.ListN.{length, drop, length-append}
+use lib.ListN.{length, drop, replicate, length-append}
 use lib.Seq.{sets, sets-eq}
 use borrow.Author.Tests.{le-ltb, not-false, ltb-false}
 use Rattle.worker.specs.Worker.{idleWorker}
@@ -18,7 +18,7 @@ use Rattle.arena.specs.Init.{freshWorkers, freshNodes, freshWords, initR
 use Rattle.arena.proofs.Bounds.{counts}
 use Rattle.arena.proofs.HeaderLaws.{header-of-some}
 use Rattle.arena.proofs.Judged.{none-holds}
-use Rattle.arena.proofs.Runs.{sets-append, length-copies}
+use Rattle.arena.proofs.Runs.{sets-append, length-copies, flat-copies}
 
 -- the nodes begin where the workers end
 pub nodes-place : (workers nodes : ℕ) → length (headerWords layoutNumber workers nodes ++ freshWorkers workers) ≡ workerFrom workers
@@ -38,6 +38,11 @@ fresh-runs arena workers nodes =
       nodes-place workers nodes,
       sets-append header (freshWorkers workers) arena 0,
     )
+
+-- the words of unused nodes are zeros
+pub unused-zeros : (count : ℕ) → flatten (replicate count (nodeWords unusedNode)) ≡ replicate (nodeWidth layoutNumber * count) 0
+unfolding nodeWidth
+unused-zeros count = flat-copies count (nodeWidth layoutNumber) 0
 
 pub fresh-length : (workers nodes : ℕ) → 2 ≤ nodes → length (freshWords workers nodes) ≡ total layoutNumber workers nodes
 unfolding freshWords freshWorkers freshNodes headerWords nodeWidth

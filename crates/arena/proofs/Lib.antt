@@ -3,6 +3,7 @@ pub mod Runs
 pub mod Bounds
 pub mod Judged
 pub mod FreshLaws
+pub mod ShortChains
 pub mod Walks
 pub mod HeaderLaws
 pub mod RecordLaws

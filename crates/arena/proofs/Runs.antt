@@ -1,14 +1,15 @@
 -- Runs of words: written one after the other, and compared.
 use Prim.Native.Nat.{ℕ, zero, suc, _+_, _*_, _-_, _≤_, _<_}
 use mathlib.Core.Path.{_≡_, refl, sym, _∙_}
-use mathlib.Core.List.{List, [], _∷_, _++_, flatten}
+use mathlib.Core.List.{List, [], _∷_, _++_, append-nil, append-assoc, flatten}
 use mathlib.Core.Bool.{true, false}
-use native.Mathlib.Nat.{add-zero, add-suc, suc-add, mul-zero, mul-suc}
+use native.Mathlib.Nat.{zero-add, add-zero, add-suc, suc-add, add-comm, mul-zero, mul-suc}
 use native.Mathlib.Numerals.{add-one, sub-one}
 use native.Mathlib.Omega.{arith}
-use lib.ListN.{length, drop, set, replicate, length-append, length-set, drop-of-length-le}
-use lib.Seq.{sets, set-out, getD-set-same, getD-set-other, drop-cons}
+use lib.ListN.{length, drop, set, replicate, length-append, length-set, length-replicate, replicate-append-replicate, drop-of-length-le}
+use lib.Seq.{sets, sets-eq, set-out, set-at, getD-set-same, getD-set-other, drop-cons, drop-length, append-snoc}
 use borrow.Author.Tests.{eq-eqb, ne-eqb}
+use borrow.Rule.Slice.PartMut.{putMid, post-is}
 use Rattle.arena.specs.Layout.{word}
 use Rattle.arena.specs.Header.{agrees}
 
@@ -33,6 +34,29 @@ pub length-copies : (k : ℕ) (vs : List ℕ) → length (flatten (replicate k v
 unfolding flatten
 length-copies zero vs = sym (mul-zero (length vs))
 length-copies (suc k) vs = rw (length-append, length-copies k vs, mul-suc) (omega arith)
+
+-- copies of a run of one value are one run of it
+pub flat-copies : (k n v : ℕ) → flatten (replicate k (replicate n v)) ≡ replicate (n * k) v
+unfolding flatten
+flat-copies zero n v = rw mul-zero
+flat-copies (suc k) n v = rw (flat-copies k n v, replicate-append-replicate, mul-suc, add-comm (n * k) n)
+
+-- a list whose first words are cleared, and one more of them
+pub zeros-on : (l : List ℕ) (i : ℕ) → i < length l → set (replicate i 0 ++ drop i l) i 0 ≡ replicate (i + 1) 0 ++ drop (i + 1) l
+zeros-on l i h =
+    let longer = replicate-append-replicate {A = ℕ} i 1 0 in
+    rw (← longer, drop-cons l i 0 h, set-at (replicate i 0) (word l i) (drop (suc i) l) 0 i (length-replicate i 0), append-snoc, add-one)
+
+-- a part that comes back with other words is a run written where it stood
+pub part-sets : (vs l : List ℕ) (from end : ℕ) → from ≤ end → end ≤ length l → length vs ≡ end - from →
+    putMid from (end - from) l vs ≡ sets l from vs
+part-sets vs l from end h k e =
+    let same : from + length vs ≡ end = omega arith in
+    rw (sets-eq vs l from (omega arith), same, post-is from end l h, append-assoc)
+
+-- a run as long as the words is all of them
+pub sets-whole : (vs l : List ℕ) → length vs ≡ length l → sets l 0 vs ≡ vs
+sets-whole vs l e = rw (sets-eq vs l 0 (omega arith), zero-add, e, drop-length) (append-nil vs)
 
 -- past the end nothing is written
 pub sets-out : (vs l : List ℕ) (i : ℕ) → length l ≤ i → sets l i vs ≡ l

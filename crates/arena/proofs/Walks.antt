@@ -2,13 +2,13 @@
 use Prim.Native.Nat.{ℕ, zero, suc, _+_, _-_, _≤_, _<_}
 use mathlib.Core.Path.{_≡_, refl, ap, _∙_}
 use mathlib.Core.List.{List, [], _∷_, _++_, map}
-use mathlib.Core.Bool.{Bool, true, false, cond, not, _&&_, true≢false, and-eq-true-iff}
+use mathlib.Core.Bool.{Bool, true, false, cond, not, _&&_, and-eq-true-iff}
 use mathlib.Core.Option.{Option, none, some, Option·map, Option·getD, Option·none-ne-some, Option·some-ne-none}
 use native.Mathlib.Omega.{arith}
-use native.Mathlib.Nat.{zero-add, add-zero, suc-add}
+use native.Mathlib.Nat.{zero-add, add-zero, add-suc, suc-add}
 use native.Mathlib.Numerals.{add-one}
-use lib.ListN.{length, drop, set, length-map}
-use lib.Seq.{sets, sets-eq}
+use lib.ListN.{length, take, drop, set, length-map}
+use lib.Seq.{sets, sets-eq, take-at, length-take-le}
 use lib.Dec.{ltb, eqb}
 use borrow.Author.Tests.{eq-eqb, ne-eqb, lt-ltb, le-ltb, ltb-true, not-true, not-false}
 use Rattle.worker.specs.Node.{head, tail}
@@ -17,105 +17,77 @@ use Rattle.arena.specs.Records.{nodeAt, keyAt, nextAt}
 use Rattle.worker.specs.Refusals.{brokenChain, noRoom, judged}
 use Rattle.arena.specs.Replies.{refused, accepted, replied}
 use Rattle.arena.proofs.Judged.{none-holds, given-values, refused-first, accepted-first}
-use Rattle.arena.specs.Snapshot.{walk, linkedKeys, chain, chainKeys, chainBroken, chainTooLong, chainRefusals, isNone}
-
--- how many nodes a walk passes, behind some that were passed before
-abbrev pub ahead : ℕ → Option (List ℕ) → Option ℕ
-ahead before none = none
-ahead before (some ns) = some (before + length ns)
-
-ahead-on : (before node : ℕ) (onward : Option (List ℕ)) → ahead before (Option·map (λ rest. node ∷ rest) onward) ≡ ahead (before + 1) onward
-ahead-on before node none = refl
-ahead-on before node (some ns) = ap some (omega arith)
+use Rattle.arena.specs.Snapshot.{walk, chain, chainKeys, chainBroken, chainTooLong, chainRefusals, isNone}
+use Rattle.arena.proofs.Runs.{sets-whole}
+use Rattle.arena.proofs.ShortChains.{chain-few}
 
 -- with a step left, one is less after it
 less : {steps k : ℕ} → k < steps → steps - k ≡ suc (steps - (k + 1))
 less h = omega arith
 
 module _ (width : ℕ) (nodes : List ℕ) (count : ℕ) where
-  -- a walk at Tail, at a break, and at a node that it passes
-  pub walk-end : (steps before last node : ℕ) → before < steps → node ≡ tail →
-      ahead before (walk width nodes count (steps - before) last node) ≡ some before
-  unfolding walk
-  walk-end steps before last node h t = rw (less h, eq-eqb _ _ t) (ap some (add-zero before))
+  -- the nodes passed, and the row with their keys, once a walk has passed the nodes that are left
+  abbrev pub gathered : ℕ → List ℕ → Option (List ℕ) → Option (ℕ × List ℕ)
+  gathered passed row none = none
+  gathered passed row (some ns) = some (passed + length ns, sets row passed (map (keyAt width nodes) ns))
 
-  pub walk-break : (steps before last node : ℕ) (n : Node) → n ≡ nodeAt width nodes node →
-      before < steps → (node ≡ tail → ⊥) → not (ltb node count && ltb last (n .key)) ≡ true →
-      ahead before (walk width nodes count (steps - before) last node) ≡ none
+  gathered-on : (passed node : ℕ) (row : List ℕ) (onward : Option (List ℕ)) →
+      gathered passed row (Option·map (λ rest. node ∷ rest) onward) ≡ gathered (passed + 1) (set row passed (keyAt width nodes node)) onward
+  gathered-on passed node row none = refl
+  gathered-on passed node row (some ns) = rw (add-one, suc-add, add-suc)
+
+  -- a walk at Tail, at a break, and at a node that it passes
+  pub walk-end : (steps passed last node : ℕ) (row : List ℕ) → passed < steps → node ≡ tail →
+      gathered passed row (walk width nodes count (steps - passed) last node) ≡ some (passed, row)
   unfolding walk
-  walk-break steps before last node n e h t k =
+  walk-end steps passed last node row h t = rw (less h, eq-eqb _ _ t, add-zero)
+
+  pub walk-break : (steps passed last node : ℕ) (row : List ℕ) (n : Node) → n ≡ nodeAt width nodes node →
+      passed < steps → (node ≡ tail → ⊥) → not (ltb node count && ltb last (n .key)) ≡ true →
+      gathered passed row (walk width nodes count (steps - passed) last node) ≡ none
+  unfolding walk
+  walk-break steps passed last node row n e h t k =
       let stops : (ltb node count && ltb last (keyAt width nodes node)) ≡ false = not-true _ (rw e at k) in
       rw (less h, ne-eqb _ _ t, stops)
 
-  pub walk-on : (steps before last node : ℕ) (n : Node) → n ≡ nodeAt width nodes node →
-      before < steps → (node ≡ tail → ⊥) → not (ltb node count && ltb last (n .key)) ≡ false →
-      ahead before (walk width nodes count (steps - before) last node)
-      ≡ ahead (before + 1) (walk width nodes count (steps - (before + 1)) (n .key) (n .next))
+  pub walk-on : (steps passed last node : ℕ) (row : List ℕ) (n : Node) → n ≡ nodeAt width nodes node →
+      passed < steps → (node ≡ tail → ⊥) → not (ltb node count && ltb last (n .key)) ≡ false →
+      gathered passed row (walk width nodes count (steps - passed) last node)
+      ≡ gathered (passed + 1) (set row passed (n .key)) (walk width nodes count (steps - (passed + 1)) (n .key) (n .next))
   unfolding walk
-  walk-on steps before last node n e h t k =
+  walk-on steps passed last node row n e h t k =
       let passes : (ltb node count && ltb last (keyAt width nodes node)) ≡ true = not-false _ (rw e at k) in
       rw (e, less h, ne-eqb _ _ t, passes)
-      (ahead-on before node (walk width nodes count (steps - (before + 1)) (keyAt width nodes node) (nextAt width nodes node)))
+      (gathered-on passed node row (walk width nodes count (steps - (passed + 1)) (keyAt width nodes node) (nextAt width nodes node)))
 
   pub rises : (node last key : ℕ) → not (ltb node count && ltb last key) ≡ false → last < key
   rises node last key k = ltb-true last key (and-eq-true-iff (ltb node count) (ltb last key) .0 (not-false _ k) .1)
 
-  -- the keys along the next links, written one by one
-  pub keys-on : (keys : List ℕ) (i steps node : ℕ) → i < steps →
-      sets keys i (linkedKeys width nodes (steps - i) node)
-      ≡ sets (set keys i (keyAt width nodes node)) (i + 1) (linkedKeys width nodes (steps - (i + 1)) (nextAt width nodes node))
-  unfolding linkedKeys
-  keys-on keys i steps node h = rw (less h, add-one)
+  -- what the walk from Head says, where it breaks off and where it comes to Tail
+  module _ (row : List ℕ) (first : Node) (read : first ≡ nodeAt width nodes head) where
+    pub broken : gathered 0 row (walk width nodes count 65536 (first .key) (first .next)) ≡ none → isNone (chain width nodes count) ≡ true
+    unfolding chain
+    broken e = go (walk width nodes count 65536 (keyAt width nodes head) (nextAt width nodes head)) (rw read at e)
+      where
+        go : (o : Option (List ℕ)) → gathered 0 row o ≡ none → isNone o ≡ true
+        go none e = refl
+        go (some ns) e = absurd (Option·some-ne-none _ e)
 
-  -- what the length of the walk from Head says
-  pub broken : (first : Node) (values : List ℕ) → first ≡ nodeAt width nodes head →
-      ahead 0 (walk width nodes count 65536 (first .key) (first .next)) ≡ none →
-      refused brokenChain ≡ replied (chainBroken width nodes count ∷ []) values
-  unfolding chainBroken chain
-  broken first values f e =
-      go (walk width nodes count 65536 (keyAt width nodes head) (nextAt width nodes head)) (rw f at e)
-    where
-      go : (o : Option (List ℕ)) → ahead 0 o ≡ none → refused brokenChain ≡ cond (isNone o) (refused brokenChain) (accepted values)
-      go none e = refl
-      go (some ns) e = absurd (Option·some-ne-none (0 + length ns) e)
+    pub whole : (n : ℕ) (after : List ℕ) → gathered 0 row (walk width nodes count 65536 (first .key) (first .next)) ≡ some (n, after) →
+        (accepted (n ∷ []) ≡ replied (chainBroken width nodes count ∷ []) (length (chainKeys width nodes count) ∷ []))
+        × (after ≡ sets row 0 (chainKeys width nodes count))
+    unfolding chainBroken chainKeys chain
+    whole n after e = go (walk width nodes count 65536 (keyAt width nodes head) (nextAt width nodes head)) (rw read at e)
+      where
+        keys : Option (List ℕ) → List ℕ
+        keys o = map (keyAt width nodes) (Option·getD o [])
 
-  pub whole : (first : Node) (n : ℕ) → first ≡ nodeAt width nodes head →
-      ahead 0 (walk width nodes count 65536 (first .key) (first .next)) ≡ some n →
-      accepted (n ∷ []) ≡ replied (chainBroken width nodes count ∷ []) (length (chainKeys width nodes count) ∷ [])
-  unfolding chainBroken chainKeys chain
-  whole first n f e =
-      go (walk width nodes count 65536 (keyAt width nodes head) (nextAt width nodes head)) (rw f at e)
-    where
-      go : (o : Option (List ℕ)) → ahead 0 o ≡ some n →
-          accepted (n ∷ [])
-          ≡ cond (isNone o) (refused brokenChain) (accepted (length (map (keyAt width nodes) (Option·getD o [])) ∷ []))
-      go none e = absurd (Option·none-ne-some n e)
-      go (some ns) e = let z : 0 + length ns ≡ n = cc in rw (← z, zero-add, length-map)
-
-  -- a walk goes along the next links
-  pub walk-linked : (steps last node : ℕ) (ns : List ℕ) → walk width nodes count steps last node ≡ some ns →
-      linkedKeys width nodes (length ns) node ≡ map (keyAt width nodes) ns
-  unfolding walk linkedKeys
-  walk-linked zero last node ns e = absurd (Option·none-ne-some ns e)
-  walk-linked (suc steps) last node ns e =
-      go (eqb node tail) (ltb node count && ltb last (keyAt width nodes node))
-      (walk width nodes count steps (keyAt width nodes node) (nextAt width nodes node))
-      (λ rest. walk-linked steps (keyAt width nodes node) (nextAt width nodes node) rest)
-      e
-    where
-      keys : List ℕ → List ℕ
-      keys = map (keyAt width nodes)
-
-      go : (t u : Bool) (onward : Option (List ℕ)) →
-          ((rest : List ℕ) → onward ≡ some rest → linkedKeys width nodes (length rest) (nextAt width nodes node) ≡ keys rest) →
-          cond t (some []) (cond u (Option·map (λ rest. node ∷ rest) onward) none) ≡ some ns →
-          linkedKeys width nodes (length ns) node ≡ keys ns
-      go true u onward more e = let z : [] ≡ ns = cc in rw (← z)
-      go false true none more e = absurd (Option·none-ne-some ns e)
-      go false true (some rest) more e =
-          let z : node ∷ rest ≡ ns = cc in
-          rw (← z) (ap (λ (l : List ℕ). keyAt width nodes node ∷ l) (more rest refl))
-      go false false onward more e = absurd (Option·none-ne-some ns e)
+        go : (o : Option (List ℕ)) → gathered 0 row o ≡ some (n, after) →
+            (accepted (n ∷ []) ≡ cond (isNone o) (refused brokenChain) (accepted (length (keys o) ∷ []))) × (after ≡ sets row 0 (keys o))
+        go none e = absurd (Option·none-ne-some (n, after) e)
+        go (some ns) e =
+            let same : _≡_ {A = ℕ × List ℕ} (n, after) (0 + length ns, sets row 0 (map (keyAt width nodes) ns)) = cc in
+            (rw (ap (λ (p : ℕ × List ℕ). p .0) same, zero-add, length-map), ap (λ (p : ℕ × List ℕ). p .1) same)
 
   -- as keys are words, more steps than 65,536 find the same
   module _ (words : (node : ℕ) → keyAt width nodes node < 65536) where
@@ -161,28 +133,20 @@ module _ (width : ℕ) (nodes : List ℕ) (count : ℕ) where
         let same : n ∷ [] ≡ length (chainKeys width nodes count) ∷ [] = given-values (chainBroken width nodes count ∷ []) _ found in
         cc
 
-    pub keys-linked : linkedKeys width nodes n (nextAt width nodes head) ≡ chainKeys width nodes count
-    unfolding chainKeys chainBroken chain
-    keys-linked =
-        go (walk width nodes count 65536 (keyAt width nodes head) (nextAt width nodes head)) refl
-        (none-holds (chainBroken width nodes count ∷ []) _ found .0)
-        keys-count
-      where
-        keys : Option (List ℕ) → List ℕ
-        keys o = map (keyAt width nodes) (Option·getD o [])
-
-        go : (o : Option (List ℕ)) →
-            walk width nodes count 65536 (keyAt width nodes head) (nextAt width nodes head) ≡ o →
-            isNone o ≡ false →
-            length (keys o) ≡ n →
-            linkedKeys width nodes n (nextAt width nodes head) ≡ keys o
-        go none w e c = absurd (true≢false e)
-        go (some ns) w e c =
-            rw (← c, length-map) (walk-linked 65536 (keyAt width nodes head) (nextAt width nodes head) ns w)
-
-    pub keys-written : (keys : List ℕ) → n ≤ length keys →
-        sets keys 0 (linkedKeys width nodes n (nextAt width nodes head)) ≡ chainKeys width nodes count ++ drop (length (chainKeys width nodes count)) keys
-    keys-written keys h = rw (keys-linked, sets-eq (chainKeys width nodes count) keys 0 (omega (arith, keys-count)), zero-add)
+    -- the keys, taken from the row, are written
+    pub keys-written : (row after keys : List ℕ) → count ≤ length row →
+        (isNone (chain width nodes count) ≡ false → after ≡ sets row 0 (chainKeys width nodes count)) → n ≤ length keys →
+        sets (take n keys) 0 (take n after) ++ drop n keys
+        ≡ chainKeys width nodes count ++ drop (length (chainKeys width nodes count)) keys
+    unfolding chainBroken
+    keys-written row after keys long gathers h =
+        let walked = chainKeys width nodes count in
+        let few = chain-few width nodes count in
+        let counted = keys-count in
+        let unbroken : isNone (chain width nodes count) ≡ false = none-holds (chainBroken width nodes count ∷ []) _ found .0 in
+        let held : take n after ≡ walked =
+        rw (gathers unbroken, sets-eq walked row 0 (omega arith)) (take-at walked (drop (0 + length walked) row) n counted) in
+        rw (held, sets-whole walked (take n keys) (rw (length-take-le n keys h) counted), counted)
 
     -- the room decides
     module _ {A : Type 0} (room : ℕ) (refuse : ℕ → A) (accept : A) where

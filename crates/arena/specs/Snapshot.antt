@@ -64,8 +64,3 @@ snapshotAnswer arena room = replied (snapshotRefusals arena room) (length (keysO
 unfoldable pub snapshotWords : List ℕ → List ℕ → List ℕ
 snapshotWords arena lent =
     written (snapshotRefusals arena (length lent)) lent (keysOf arena ++ drop (length (keysOf arena)) lent)
-
--- For the pass that copies the keys: the keys of so many nodes, from `node` on by next links alone.
-unfoldable pub linkedKeys : ℕ → List ℕ → ℕ → ℕ → List ℕ
-linkedKeys width nodes zero node = []
-linkedKeys width nodes (suc steps) node = keyAt width nodes node ∷ linkedKeys width nodes steps (nextAt width nodes node)

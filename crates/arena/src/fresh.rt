@@ -2,19 +2,19 @@
 ghost use mathlib.Core.Path.{_≡_};
 ghost use mathlib.Core.Bool.{true};
 ghost use mathlib.Core.List.{[], flatten};
-ghost use Prim.Native.Nat.{_≤_, _<_, _^_};
+ghost use Prim.Native.Nat.{_+_, _*_, _≤_, _<_, _^_};
 ghost use lib.ListN.{length, replicate};
 ghost use lib.Seq.{sets};
-ghost use Rattle.arena.specs.Layout.{headerWidth, layoutNumber, goodCounts, headerWords};
+ghost use Rattle.arena.specs.Layout.{headerWidth, layoutNumber, nodeWidth, total, goodCounts, headerWords};
 ghost use Rattle.worker.specs.Node.{unusedNode};
 ghost use Rattle.arena.specs.Records.{nodeWords};
 ghost use Rattle.arena.specs.Replies.{verdictReply, replied};
 ghost use Rattle.arena.specs.Init.{freshWorkers, freshNodes, freshWords, initRefusals};
 use crate::Verdict;
 use crate::layout;
-use crate::records::node_words;
 use crate::records::worker_words;
 use crate::records::write_node;
+use crate::words::clear;
 use crate::words::write;
 use worker::Node;
 use worker::Worker;
@@ -33,7 +33,7 @@ pub(crate) fn init_verdict(arena: &[u16], workers: u16, nodes: u16) -> Verdict
 }
 
 pub(crate) fn write_fresh(arena: &mut [u16], workers: u16, nodes: u16)
-    requires { ⌜ goodCounts workers nodes ≡ true ⌝ }
+    requires { ⌜ (goodCounts workers nodes ≡ true) × (total layoutNumber workers nodes ≤ length (now arena)) ⌝ }
     ensures { λ _. ⌜ now (arena .exit) ≡ sets (now (arena .entry)) 0 (freshWords workers nodes) ⌝ }
 {
     write_header(arena, workers, nodes);
@@ -58,7 +58,7 @@ fn write_workers(arena: &mut [u16], workers: u16)
 
 // Head, Tail and the unused nodes.
 fn write_nodes(arena: &mut [u16], from: usize, nodes: u16)
-    requires { ⌜ (from < 2 ^ 16) × (2 ≤ nodes) ⌝ }
+    requires { ⌜ (2 ≤ nodes) × (from + nodeWidth layoutNumber * nodes ≤ length (now arena)) ⌝ }
     ensures { λ _. ⌜ now (arena .exit) ≡ sets (now (arena .entry)) from (freshNodes nodes) ⌝ }
 {
     let width = layout::NODE_WIDTH as usize;
@@ -67,12 +67,13 @@ fn write_nodes(arena: &mut [u16], from: usize, nodes: u16)
     write_unused(arena, from + 2 * width, nodes - 2);
 }
 
+// Every word of an unused node is 0.
 fn write_unused(arena: &mut [u16], from: usize, count: u16)
-    requires { ⌜ from < 2 ^ 32 ⌝ }
+    requires { ⌜ from + nodeWidth layoutNumber * count ≤ length (now arena) ⌝ }
     ensures { λ _. ⌜ now (arena .exit) ≡ sets (now (arena .entry)) from (flatten (replicate count (nodeWords unusedNode))) ⌝ }
 {
-    let unused = node_words(Node::unused());
-    write_copies(arena, from, &unused, count);
+    let end = from + (layout::span(layout::NODE_WIDTH, count) as usize);
+    clear(&mut arena[from..end]);
 }
 
 // The same values again and again, from a place on.

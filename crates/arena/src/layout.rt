@@ -66,7 +66,7 @@ pub fn worker_from(worker: u16) -> usize
 }
 
 // Words of so many records.
-fn span(width: u16, count: u16) -> u32
+pub(crate) fn span(width: u16, count: u16) -> u32
     ensures { λ r. ⌜ r ≡ width * count ⌝ }
 {
     (width as u32) * (count as u32)

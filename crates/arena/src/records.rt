@@ -56,7 +56,7 @@ pub fn write_worker(arena: &mut [u16], number: u16, worker: Worker)
     write(arena, layout::worker_from(number), &words);
 }
 
-pub(crate) fn node_words(node: Node) -> [u16; 4]
+fn node_words(node: Node) -> [u16; 4]
     ensures { λ r. ⌜ r ≡ nodeWords node ⌝ }
 {
     [node.key, node.next, node.mark, node.owner]

@@ -1,6 +1,6 @@
 // Words read and written, whatever the place: past the end a read gives 0 and a write does nothing.
 ghost use mathlib.Core.Path.{_≡_};
-ghost use lib.ListN.{set};
+ghost use lib.ListN.{length, replicate, set};
 ghost use lib.Seq.{sets};
 ghost use Rattle.arena.specs.Layout.{word};
 ghost use Rattle.arena.specs.Header.{agrees};
@@ -29,6 +29,17 @@ pub fn write(words: &mut [u16], at: usize, values: &[u16])
     let mut i = 0;
     while i < values.len() {
         put(words, at + i, values[i]);
+        i += 1;
+    }
+}
+
+// Zeros in every word.
+pub(crate) fn clear(words: &mut [u16])
+    ensures { λ _. ⌜ now (words .exit) ≡ replicate (length (now (words .entry))) 0 ⌝ }
+{
+    let mut i = 0;
+    while i < words.len() {
+        words[i] = 0;
         i += 1;
     }
 }

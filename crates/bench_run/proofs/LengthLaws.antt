@@ -14,9 +14,9 @@ use Rattle.arena.specs.Replies.{Reply, refused, accepted, replied}
 use Rattle.arena.specs.Snapshot.{keysOf}
 use Rattle.arena.proofs.Bounds.{counts}
 use Rattle.arena.proofs.Judged.{judged-refused, judged-accepted}
+use Rattle.arena.proofs.ShortChains.{keys-few}
 use Rattle.linear.specs.History.{calls, totals}
-use Rattle.linear.proofs.Members.{whole}
-use Rattle.linear.proofs.Timeline.{Schedule, last, arena, sound, always}
+use Rattle.linear.proofs.Timeline.{Schedule, last, arena, sound}
 use Rattle.schedule.specs.declared.Call.{Call}
 use Rattle.schedule.specs.declared.Totals.{Totals}
 use Rattle.schedule.specs.Run.{entriesOf, runRefusals, recordsOf, recordOf, totalsOf}
@@ -27,7 +27,6 @@ use Rattle.bench_input.specs.Bytes.{bytesOf}
 use Rattle.bench_input.specs.Input.{Outcome, planned, badLine, outcomeOf}
 use Rattle.bench_print.specs.Print.{Printed, digitAt, decimal, labelled, badLineText, refusedText, totalsText, operationText, answerText, callText, keysText, rollText}
 use Rattle.bench_run.specs.Output.{arenaWords, recordCount, runText, scheduleText, outcomeText, outputOf}
-use Rattle.bench_run.proofs.RollLaws.{keys-few}
 
 digit-short : (place n : ℕ) → length (digitAt place n) ≤ 1
 unfolding digitAt
@@ -118,7 +117,7 @@ run-short workers nodes schedule passed =
       roll-short (keysOf (arena r (last r))),
       calls-fit r (last r) (omega arith),
       passed .calls-fit,
-      keys-few (arena r (last r)) (whole (sound r (last r)) (always r (last r))),
+      keys-few (arena r (last r)),
       sound r (last r) .nodes-are,
       counts workers nodes (passed .counts),
     ))

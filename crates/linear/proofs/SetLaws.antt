@@ -164,12 +164,7 @@ module _ {count : ℕ} {key next : ℕ → ℕ} where
   walked-above (passed h low above onward) m =
       ⊎-elim (λ same. rw same above) (λ there. omega (arith, walked-above onward there)) (List·Memᴰ·cases-cons m)
 
-  pub walked-inside : {last node n : ℕ} {nodes : List ℕ} → Walked count key next last node nodes → List·Memᴰ n nodes → n < count
-  walked-inside (ended e) m = absurd (List·Memᴰ·not-nil m)
-  walked-inside (passed h low above onward) m =
-      ⊎-elim (λ same. rw same low) (λ there. walked-inside onward there) (List·Memᴰ·cases-cons m)
-
-  pub walked-rises : {last node : ℕ} {nodes : List ℕ} → Walked count key next last node nodes → Pairs (λ a b. key a < key b) nodes
+  walked-rises : {last node : ℕ} {nodes : List ℕ} → Walked count key next last node nodes → Pairs (λ a b. key a < key b) nodes
   walked-rises (ended e) = alone
   walked-rises (passed {nodes} h low above onward) = each-of nodes (λ n m. walked-above onward m) ahead walked-rises onward
 

@@ -14,7 +14,7 @@ good : tie.Need-write-fresh-requires
 good c κs =
     let args = c .before .before .before .before .before .before .args in
     let told = sym (ap verdictReply (c .before .enum-told .given .1)) ∙ c .before .before .before .init-verdict .ensures in
-    init-passed (now (args .arena)) (args .workers) (args .nodes) told .0
+    init-passed (now (args .arena)) (args .workers) (args .nodes) told
 
 accepted : tie.Need-returns
 unfolding initAnswer initArena

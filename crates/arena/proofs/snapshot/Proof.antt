@@ -42,6 +42,9 @@ starts c =
 ends : tie.Need-part-write-keys-end
 ends c = omega (arith, header c, c .before .before .before .word2 .ensures)
 
+few : tie.Need-write-keys-requires
+few c κs = omega (arith, header (c .before .before), c .before .before .word4 .ensures)
+
 accepted : tie.Need-returns-2
 unfolding snapshotAnswer snapshotWords snapshotRefusals keysOf nodePart
 accepted c =
@@ -65,5 +68,5 @@ pub snapshot-spec : {M : Type 1} → statement M
 snapshot-spec =
     tie.close
     (tie.spec (search needs) (search needs) refused (search needs) (search needs) (search needs) (search needs)
-    (search needs) (search needs) (search needs) (search needs) (search needs) ordered starts ends (search needs)
+    (search needs) (search needs) (search needs) (search needs) (search needs) ordered starts ends few
     (search needs) accepted)

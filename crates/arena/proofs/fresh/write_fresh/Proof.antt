@@ -10,7 +10,9 @@ use Rattle.arena.proofs.fresh.write_fresh.Tie as tie
 write-nodes-requires : tie.Need-write-nodes-requires
 write-nodes-requires c κs =
     let start = c .before .before .before .before .before .before .before .before .before .before .before in
-    omega (arith, c .worker-from .ensures, counts (start .args .workers) (start .args .nodes) (start .pre))
+    let workers = c .before .before .before .before .write-workers in
+    let header = c .before .before .before .before .before .before .before .before .write-header in
+    omega (arith, c .worker-from .ensures, counts (start .args .workers) (start .args .nodes) (start .pre .0), workers .kept .0, header .kept .0)
 
 returns : tie.Need-returns
 returns c =
@@ -25,4 +27,4 @@ returns c =
 
 pub write-fresh-spec : {M : Type 1} → statement M
 write-fresh-spec =
-    tie.close (tie.spec (λ c κs. c .before .before .pre) (search needs) (search needs) write-nodes-requires (search needs) returns)
+    tie.close (tie.spec (λ c κs. c .before .before .pre .0) (search needs) (search needs) write-nodes-requires (search needs) returns)
