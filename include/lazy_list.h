@@ -7,8 +7,8 @@
  *   - a pointer leads to as many words as the length beside it says, `totals` to four; also with length 0 it is not null;
  *   - words lent to one call as different arguments do not overlap;
  *   - nobody else reads or writes the words during the call: a function is one atomic step only where calls on one arena take turns.
- * The library is compiled for x86-64 Linux, keeps nothing between calls, allocates nothing, takes less than 4 kB of stack, and of the C library
- * wants memset alone.
+ * The library is compiled for x86-64 Linux: some 11 kB of code that keeps nothing between calls, allocates nothing, takes less than 4 kB of
+ * stack, and of the C library wants memset and memcpy alone.
  *
  * The arena, 8 + 8 W + 4 N words for W workers (1 to 8) and N nodes (3 to 1,024), counted from 0:
  *   header, 8 words    layout (1), W, N, place of the worker records (8), place of the node records (8 + 8 W), total (8 + 8 W + 4 N), 0, 0

@@ -99,6 +99,7 @@ fn look(arena: &[u16], nodes: &[u16], width: u16, count: u16, state: Worker) -> 
     }
 }
 
+// The node pred, for the stages that look at its next, owner or mark.
 fn look_at_pred(nodes: &[u16], width: u16, state: Worker) -> Node
     ensures { λ r. ⌜ r ≡ lookedAt (looksAtPred (state .stage)) (nodeAt width (now (nodes .entry)) (state .pred)) ⌝ }
 {
@@ -109,6 +110,7 @@ fn look_at_pred(nodes: &[u16], width: u16, state: Worker) -> Node
     }
 }
 
+// The node curr, for the stages that look at its key; at its next; at its owner or mark.
 fn look_at_curr(nodes: &[u16], width: u16, state: Worker) -> Node
     ensures { λ r. ⌜ r ≡ lookedAt (looksAtCurr (state .stage)) (nodeAt width (now (nodes .entry)) (state .curr)) ⌝ }
 {

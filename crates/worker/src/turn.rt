@@ -11,7 +11,8 @@ use crate::report::Seen;
 use crate::report::Turned;
 
 impl Worker {
-    // One turn: the next worker, the report, and the one effect on the nodes. `owner` is the worker's owner word.
+    // One turn: the next worker, the report, and the one effect on the nodes. `owner` is the worker's owner word. An idle turn is
+    // reported here, so that `step` has one caller and is compiled into it.
     pub fn turn(self, owner: u16, seen: Seen) -> Turned
         ensures { λ r. ⌜ r ≡ turnOf self owner seen ⌝ }
     {

@@ -13,15 +13,17 @@ pub trait Library: Sync {
     fn start(&self, arena: &mut [u16], worker: u16, operation: u16, key: u16) -> u32;
     fn turn(&self, arena: &mut [u16], worker: u16) -> u32;
     fn snapshot(&self, arena: &[u16], keys: &mut [u16]) -> u32;
-    fn run(
-        &self,
-        arena: &mut [u16],
-        workers: u16,
-        nodes: u16,
-        schedule: &[u16],
-        history: &mut [u16],
-        totals: &mut [u16; 4],
-    ) -> u32;
+    fn run(&self, run: Run) -> u32;
+}
+
+/// What a run is given and lent.
+pub struct Run<'a> {
+    pub arena: &'a mut [u16],
+    pub workers: u16,
+    pub nodes: u16,
+    pub schedule: &'a [u16],
+    pub history: &'a mut [u16],
+    pub totals: &'a mut [u16; 4],
 }
 
 mod c {
@@ -76,26 +78,18 @@ impl Library for Proved {
         unsafe { c::lazy_list_snapshot(arena.as_ptr(), arena.len(), keys.as_mut_ptr(), keys.len()) }
     }
 
-    fn run(
-        &self,
-        arena: &mut [u16],
-        workers: u16,
-        nodes: u16,
-        schedule: &[u16],
-        history: &mut [u16],
-        totals: &mut [u16; 4],
-    ) -> u32 {
+    fn run(&self, run: Run) -> u32 {
         unsafe {
             c::lazy_list_run(
-                arena.as_mut_ptr(),
-                arena.len(),
-                workers,
-                nodes,
-                schedule.as_ptr(),
-                schedule.len(),
-                history.as_mut_ptr(),
-                history.len(),
-                totals.as_mut_ptr(),
+                run.arena.as_mut_ptr(),
+                run.arena.len(),
+                run.workers,
+                run.nodes,
+                run.schedule.as_ptr(),
+                run.schedule.len(),
+                run.history.as_mut_ptr(),
+                run.history.len(),
+                run.totals.as_mut_ptr(),
             )
         }
     }
@@ -139,32 +133,33 @@ impl Library for Model {
         number(arena::snapshot(arena, keys).map(|count| count as u32))
     }
 
-    fn run(
-        &self,
-        arena: &mut [u16],
-        workers: u16,
-        nodes: u16,
-        schedule: &[u16],
-        history: &mut [u16],
-        totals: &mut [u16; 4],
-    ) -> u32 {
-        let room = history.len() / CALL_WORDS;
-        let done = run::run(arena, workers, nodes, schedule, room).map(|(counts, calls)| {
-            *totals = [counts.entries, counts.refused, counts.waits, counts.calls];
-            for (words, call) in history.chunks_exact_mut(CALL_WORDS).zip(calls) {
-                let run::Call {
-                    worker,
-                    operation,
-                    key,
-                    start,
-                    point,
-                    finish,
-                    answer,
-                } = call;
-                words.copy_from_slice(&[worker, operation, key, start, point, finish, answer]);
+    fn run(&self, run: Run) -> u32 {
+        let room = run.history.len() / CALL_WORDS;
+        let done = run::run(run.arena, run.workers, run.nodes, run.schedule, room);
+        number(done.map(|(counts, calls)| {
+            *run.totals = total_words(counts);
+            for (words, call) in run.history.chunks_exact_mut(CALL_WORDS).zip(calls) {
+                words.copy_from_slice(&call_words(call));
             }
             0
-        });
-        number(done)
+        }))
     }
+}
+
+/// The totals of a run, in the order of the interface.
+pub fn total_words(counts: run::Totals) -> [u16; 4] {
+    [counts.entries, counts.refused, counts.waits, counts.calls]
+}
+
+fn call_words(call: run::Call) -> [u16; CALL_WORDS] {
+    let run::Call {
+        worker,
+        operation,
+        key,
+        start,
+        point,
+        finish,
+        answer,
+    } = call;
+    [worker, operation, key, start, point, finish, answer]
 }

@@ -2,7 +2,7 @@
 
 use model::plain;
 
-use crate::library::{Library, Model};
+use crate::library::{total_words, Library, Model, Run};
 
 /// Calls of the proved library cannot be inlined, so these are not either.
 pub struct PlainRust;
@@ -34,18 +34,10 @@ impl Library for PlainRust {
 
     /// Not the model's, which keeps the set at every time.
     #[inline(never)]
-    fn run(
-        &self,
-        arena: &mut [u16],
-        workers: u16,
-        nodes: u16,
-        schedule: &[u16],
-        history: &mut [u16],
-        totals: &mut [u16; 4],
-    ) -> u32 {
-        match plain::run(arena, workers, nodes, schedule, history) {
+    fn run(&self, run: Run) -> u32 {
+        match plain::run(run.arena, run.workers, run.nodes, run.schedule, run.history) {
             Ok(counts) => {
-                *totals = [counts.entries, counts.refused, counts.waits, counts.calls];
+                *run.totals = total_words(counts);
                 0
             }
             Err(refusal) => u32::from(refusal),

@@ -3,7 +3,7 @@
 use model::arena::{NODE_WORDS, WORKER_WORDS};
 
 use crate::benchmark::measure::{Words, Workload};
-use crate::library::Library;
+use crate::library::{Library, Run};
 
 /// Starts and turns one by one, as a print loop deals them.
 pub struct Entries {
@@ -84,8 +84,14 @@ impl Workload for Runs {
         let Words { arena, out, totals } = words;
         let histories = out.chunks_exact_mut(self.history_words);
         for (schedule, history) in self.schedules.iter().zip(histories) {
-            let (workers, nodes) = (self.workers, self.nodes);
-            reply(library.run(arena, workers, nodes, schedule, history, totals));
+            reply(library.run(Run {
+                arena,
+                workers: self.workers,
+                nodes: self.nodes,
+                schedule,
+                history,
+                totals,
+            }));
             for total in *totals {
                 reply(total.into());
             }

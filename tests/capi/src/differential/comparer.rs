@@ -2,7 +2,7 @@
 
 use super::lent::{difference, Difference, Lent};
 use super::requests::Request;
-use crate::library::{Library, Model};
+use crate::library::{Library, Model, Run};
 
 /// More words than any request lends besides the arena.
 const MOST_WORDS: usize = 30_000;
@@ -115,14 +115,13 @@ impl Desk {
     }
 
     fn run(&mut self, library: &dyn Library, workers: u16, nodes: u16) -> u32 {
-        let totals = self.totals.words_mut().try_into().expect("four words");
-        library.run(
-            self.arena.words_mut(),
+        library.run(Run {
+            arena: self.arena.words_mut(),
             workers,
             nodes,
-            self.schedule.words(),
-            self.history.words_mut(),
-            totals,
-        )
+            schedule: self.schedule.words(),
+            history: self.history.words_mut(),
+            totals: self.totals.words_mut().try_into().expect("four words"),
+        })
     }
 }

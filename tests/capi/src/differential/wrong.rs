@@ -4,12 +4,10 @@
 use super::wrong_others::*;
 use super::wrong_turns::*;
 use super::Comparison;
-use crate::library::{Library, Model};
+use crate::library::{Library, Model, Run};
 
 /// Arenas that a wrong library gets at most.
 const COUNT: u64 = 50_000;
-
-type Run = fn(&mut [u16], u16, u16, &[u16], &mut [u16], &mut [u16; 4]) -> u32;
 
 /// The model with some entry points replaced.
 struct Wrong {
@@ -18,7 +16,7 @@ struct Wrong {
     start: fn(&mut [u16], u16, u16, u16) -> u32,
     turn: fn(&mut [u16], u16) -> u32,
     snapshot: fn(&[u16], &mut [u16]) -> u32,
-    run: Run,
+    run: fn(Run) -> u32,
 }
 
 const RIGHT: Wrong = Wrong {
@@ -27,9 +25,7 @@ const RIGHT: Wrong = Wrong {
     start: |arena, worker, operation, key| Model.start(arena, worker, operation, key),
     turn: |arena, worker| Model.turn(arena, worker),
     snapshot: |arena, keys| Model.snapshot(arena, keys),
-    run: |arena, workers, nodes, schedule, history, totals| {
-        Model.run(arena, workers, nodes, schedule, history, totals)
-    },
+    run: |run| Model.run(run),
 };
 
 const fn wrong_init(name: &'static str, init: fn(&mut [u16], u16, u16) -> u32) -> Wrong {
@@ -64,7 +60,7 @@ const fn wrong_snapshot(name: &'static str, snapshot: fn(&[u16], &mut [u16]) -> 
     }
 }
 
-const fn wrong_run(name: &'static str, run: Run) -> Wrong {
+const fn wrong_run(name: &'static str, run: fn(Run) -> u32) -> Wrong {
     Wrong { name, run, ..RIGHT }
 }
 
@@ -110,16 +106,8 @@ impl Library for Wrong {
         (self.snapshot)(arena, keys)
     }
 
-    fn run(
-        &self,
-        arena: &mut [u16],
-        workers: u16,
-        nodes: u16,
-        schedule: &[u16],
-        history: &mut [u16],
-        totals: &mut [u16; 4],
-    ) -> u32 {
-        (self.run)(arena, workers, nodes, schedule, history, totals)
+    fn run(&self, run: Run) -> u32 {
+        (self.run)(run)
     }
 }
 

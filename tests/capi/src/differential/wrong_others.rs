@@ -3,7 +3,7 @@
 use model::arena::*;
 use model::run::run_traced;
 
-use crate::library::{Library, Model, CALL_WORDS};
+use crate::library::{Library, Model, Run, CALL_WORDS};
 
 const ACCEPTED: u32 = 0;
 
@@ -69,37 +69,36 @@ pub fn snapshot_tail_key(arena: &[u16], keys: &mut [u16]) -> u32 {
     Model.snapshot(arena, keys)
 }
 
-pub fn run_swaps_totals(
-    arena: &mut [u16],
-    workers: u16,
-    nodes: u16,
-    schedule: &[u16],
-    history: &mut [u16],
-    totals: &mut [u16; 4],
-) -> u32 {
-    let reply = Model.run(arena, workers, nodes, schedule, history, totals);
+/// A right run whose lent words are still at hand afterwards.
+fn right_run(run: &mut Run) -> u32 {
+    Model.run(Run {
+        arena: run.arena,
+        workers: run.workers,
+        nodes: run.nodes,
+        schedule: run.schedule,
+        history: run.history,
+        totals: run.totals,
+    })
+}
+
+pub fn run_swaps_totals(mut run: Run) -> u32 {
+    let reply = right_run(&mut run);
     if reply == ACCEPTED {
-        totals.swap(2, 3);
+        run.totals.swap(2, 3);
     }
     reply
 }
 
 /// Document 01's trap: by then the key may have been put back.
-pub fn run_late_no(
-    arena: &mut [u16],
-    workers: u16,
-    nodes: u16,
-    schedule: &[u16],
-    history: &mut [u16],
-    totals: &mut [u16; 4],
-) -> u32 {
-    let room = history.len() / CALL_WORDS;
-    let trace = run_traced(&mut arena.to_vec(), workers, nodes, schedule, room);
-    let reply = Model.run(arena, workers, nodes, schedule, history, totals);
+pub fn run_late_no(mut run: Run) -> u32 {
+    let room = run.history.len() / CALL_WORDS;
+    let mut copy = run.arena.to_vec();
+    let trace = run_traced(&mut copy, run.workers, run.nodes, run.schedule, room);
+    let reply = right_run(&mut run);
     if let Ok(trace) = trace {
         for (place, call) in trace.calls.iter().enumerate() {
             if call.is_contains_no() {
-                history[CALL_WORDS * place + 4] = trace.decided[place];
+                run.history[CALL_WORDS * place + 4] = trace.decided[place];
             }
         }
     }
