@@ -51,7 +51,7 @@ impl Worker {
         is_key(self.key) & (!is_within(self.stage, 19, 21) | is_within(self.answer, 1, 3))
     }
 
-    // The node numbers that the stage reads.
+    // The node numbers that the stage reads; all stages that are not named read curr alone.
     fn is_placed(self, nodes: u16) -> bool
         requires { ⌜ 1 ≤ self .stage ⌝ }
         requires { ⌜ self .stage ≤ 25 ⌝ }
