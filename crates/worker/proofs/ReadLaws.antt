@@ -63,18 +63,30 @@ same-is false false e = refl
 abbrev readsJust : Bool → Bool → Bool → ℕ → Bool
 readsJust pred curr spare stage = same (readsPred stage) pred && (same (readsCurr stage) curr && same (readsSpare stage) spare)
 
--- where all stages of a kind read the same, a record at one of them is judged by that
-pub placed-where : (w : Worker) (nodes : ℕ) (kind : ℕ → Bool) (pred curr spare : Bool) →
-    allBelow 26 (λ stage. not (kind stage) || readsJust pred curr spare stage) ≡ true → w .stage < 26 → kind (w .stage) ≡ true →
-    placed w nodes ≡ (not pred || ltb (w .pred) nodes) && (not curr || ltb (w .curr) nodes) && (not spare || ltb (w .spare) nodes)
-unfolding placed
-placed-where w nodes kind pred curr spare all below is =
-    let just : readsJust pred curr spare (w .stage) ≡ true =
-    rw is at (holds-below 26 (λ stage. not (kind stage) || readsJust pred curr spare stage) all (w .stage) below) in
-    let parts = and-eq-true-iff (same (readsPred (w .stage)) pred) _ .0 just in
-    let others = and-eq-true-iff (same (readsCurr (w .stage)) curr) _ .0 (parts .1) in
-    rw (
-      same-is (readsPred (w .stage)) pred (parts .0),
-      same-is (readsCurr (w .stage)) curr (others .0),
-      same-is (readsSpare (w .stage)) spare (others .1),
-    )
+module _ (w : Worker) (nodes : ℕ) where
+  -- the test of a record, where it is known what the stage reads
+  abbrev placedBy : Bool → Bool → Bool → Bool
+  placedBy pred curr spare = (not pred || ltb (w .pred) nodes) && (not curr || ltb (w .curr) nodes) && (not spare || ltb (w .spare) nodes)
+
+  -- all stages of a kind read the same, and the record stands at one of them
+  pub placed-where : (kind : ℕ → Bool) (pred curr spare : Bool) →
+      allBelow 26 (λ stage. not (kind stage) || readsJust pred curr spare stage) ≡ true → w .stage < 26 → kind (w .stage) ≡ true →
+      placed w nodes ≡ placedBy pred curr spare
+  unfolding placed
+  placed-where kind pred curr spare all below is =
+      let just : readsJust pred curr spare (w .stage) ≡ true =
+      rw is at (holds-below 26 (λ stage. not (kind stage) || readsJust pred curr spare stage) all (w .stage) below) in
+      let parts = and-eq-true-iff (same (readsPred (w .stage)) pred) _ .0 just in
+      let others = and-eq-true-iff (same (readsCurr (w .stage)) curr) _ .0 (parts .1) in
+      rw (
+        same-is (readsPred (w .stage)) pred (parts .0),
+        same-is (readsCurr (w .stage)) curr (others .0),
+        same-is (readsSpare (w .stage)) spare (others .1),
+      )
+
+  -- a kind that is a list
+  pub placed-among : (keys : List ℕ) (pred curr spare : Bool) →
+      allBelow 26 (λ stage. not (among keys stage) || readsJust pred curr spare stage) ≡ true → w .stage < 26 → OneOf keys (w .stage) →
+      placed w nodes ≡ placedBy pred curr spare
+  placed-among keys pred curr spare all below one =
+      placed-where (among keys) pred curr spare all below (listed keys (w .stage) one)
