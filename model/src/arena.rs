@@ -151,13 +151,14 @@ pub fn start(arena: &mut [u16], worker: u16, operation: u16, key: u16) -> Result
 }
 
 /// Writes the keys between Head and Tail, marked or not (document 01: the roll), and gives their
-/// count. Refusals 1, 2, 7, 8.
+/// count. They are gathered aside, since a refusal writes nothing. Refusals 1, 2, 7, 8.
 pub fn snapshot(arena: &[u16], out: &mut [u16]) -> Result<usize, u16> {
     let shape = check_header(arena)?;
-    let mut keys = Vec::new();
+    let mut keys = [0; MAX_NODES as usize];
+    let mut count = 0;
     let mut last_key = arena[shape.node_at(HEAD) + KEY];
     let mut node = arena[shape.node_at(HEAD) + NEXT];
-    // Keys must go up, so this ends on any arena.
+    // Keys must go up, so no node is met twice, and this ends on any arena.
     while node != TAIL {
         if node >= shape.nodes {
             return Err(BROKEN_CHAIN);
@@ -166,15 +167,14 @@ pub fn snapshot(arena: &[u16], out: &mut [u16]) -> Result<usize, u16> {
         if key <= last_key {
             return Err(BROKEN_CHAIN);
         }
-        keys.push(key);
+        keys[count] = key;
+        count += 1;
         last_key = key;
         node = arena[shape.node_at(node) + NEXT];
     }
-    if keys.len() > out.len() {
-        return Err(NO_ROOM);
-    }
-    out[..keys.len()].copy_from_slice(&keys);
-    Ok(keys.len())
+    let room = out.get_mut(..count).ok_or(NO_ROOM)?;
+    room.copy_from_slice(&keys[..count]);
+    Ok(count)
 }
 
 /// The set that the arena stands for: keys of the unmarked nodes on the chain, Head and Tail left

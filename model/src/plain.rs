@@ -1,6 +1,6 @@
-//! The run of a schedule and the snapshot as they would be written for use and not for checking:
-//! nothing is allocated, and no set is kept for looking back. The benchmark holds the proved
-//! library against these; the self test holds these against the traced run.
+//! The run of a schedule as it would be written for use and not for checking: nothing is allocated,
+//! and no set is kept for looking back. The benchmark holds the proved library against it; the self
+//! test holds it against the traced run.
 
 use crate::arena::*;
 use crate::run::{Totals, MAX_SCHEDULE_WORDS};
@@ -155,31 +155,4 @@ impl Run<'_> {
         }
         self.arena[at + KEY] == key && self.arena[at + MARK] == 0
     }
-}
-
-/// Writes the keys between Head and Tail and gives their count. They are gathered aside, since a
-/// refusal writes nothing and a second walk would cost more than a copy. Refusals 1, 2, 7, 8.
-pub fn snapshot(arena: &[u16], out: &mut [u16]) -> Result<usize, u16> {
-    let shape = check_header(arena)?;
-    let mut keys = [0; MAX_NODES as usize];
-    let mut count = 0;
-    let mut last_key = arena[shape.node_at(HEAD) + KEY];
-    let mut node = arena[shape.node_at(HEAD) + NEXT];
-    // Keys must go up, so no node is met twice.
-    while node != TAIL {
-        if node >= shape.nodes {
-            return Err(BROKEN_CHAIN);
-        }
-        let key = arena[shape.node_at(node) + KEY];
-        if key <= last_key {
-            return Err(BROKEN_CHAIN);
-        }
-        keys[count] = key;
-        count += 1;
-        last_key = key;
-        node = arena[shape.node_at(node) + NEXT];
-    }
-    let room = out.get_mut(..count).ok_or(NO_ROOM)?;
-    room.copy_from_slice(&keys[..count]);
-    Ok(count)
 }

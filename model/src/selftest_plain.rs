@@ -1,4 +1,4 @@
-//! The plain run and the plain snapshot beside the ones that are written for checking.
+//! The plain run beside the one that is written for checking.
 
 use crate::arena::*;
 use crate::plain;
@@ -117,15 +117,16 @@ impl Met {
     }
 }
 
-/// True if both runs answer and write the same; the arena is what they leave.
-fn same_run(input: &Input, arena: &mut [u16], met: &mut Met) -> bool {
-    let mut traced_arena = arena.to_vec();
+/// True if both runs answer and write the same.
+fn same_run(input: &Input, met: &mut Met) -> bool {
+    let mut arena = vec![UNTOUCHED; input.arena_words];
+    let mut traced_arena = arena.clone();
     let mut history = vec![UNTOUCHED; input.history_words];
     let mut expected = history.clone();
     let room = input.history_words / CALL_WORDS;
     let (workers, nodes, schedule) = (input.workers, input.nodes, &input.schedule);
     let traced = run_traced(&mut traced_arena, workers, nodes, schedule, room);
-    let answer = plain::run(arena, workers, nodes, schedule, &mut history);
+    let answer = plain::run(&mut arena, workers, nodes, schedule, &mut history);
     match &traced {
         Err(number) => met.refusals[*number as usize] += 1,
         Ok(trace) => {
@@ -136,17 +137,7 @@ fn same_run(input: &Input, arena: &mut [u16], met: &mut Met) -> bool {
         }
     }
     let totals = traced.map(|trace| trace.totals);
-    answer == totals && *arena == traced_arena && history == expected
-}
-
-/// The same of the snapshot, with room that may be too little, on words that may be damaged.
-fn same_snapshot(arena: &mut [u16], rng: &mut Rng) -> bool {
-    if rng.chance(50) && !arena.is_empty() {
-        arena[rng.index(arena.len())] = rng.word(0, 9);
-    }
-    let mut keys = vec![UNTOUCHED; rng.index(8)];
-    let mut expected = keys.clone();
-    plain::snapshot(arena, &mut keys) == snapshot(arena, &mut expected) && keys == expected
+    answer == totals && arena == traced_arena && history == expected
 }
 
 pub fn plain_runs(checks: &mut Checks) {
@@ -154,10 +145,7 @@ pub fn plain_runs(checks: &mut Checks) {
     for number in 0..INPUTS {
         let mut rng = Rng::new(11, number);
         let input = random_input(&mut rng);
-        let mut arena = vec![UNTOUCHED; input.arena_words];
-        let same = same_run(&input, &mut arena, &mut met);
-        checks.check("plain run as traced run", same);
-        checks.check("plain snapshot", same_snapshot(&mut arena, &mut rng));
+        checks.check("plain run as traced run", same_run(&input, &mut met));
     }
     for refusal in [SHORT_ARENA, NO_ROOM, BAD_SCHEDULE, BAD_COUNTS] {
         let seen = met.refusals[refusal as usize];

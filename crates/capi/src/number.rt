@@ -1,6 +1,6 @@
 // Answers as one number.
 ghost use mathlib.Core.Path.{_≡_};
-ghost use Rattle.worker.specs.Report.{answerNumber, reportValues};
+ghost use Rattle.worker.specs.Report.{answerNumber};
 ghost use Rattle.arena.specs.Replies.{verdictReply, listingReply};
 ghost use Rattle.lazy.specs.Turn.{outcomeReply};
 ghost use Rattle.schedule.specs.Run.{summaryReply};

@@ -20,7 +20,8 @@ use Rattle.lazy.proofs.TurnLaws.{answer-told}
 use Rattle.linear.specs.Entries.{Event, callStarted, entryRefused, turnEvent, eventOf, after}
 use Rattle.schedule.specs.declared.book.Book.{Book}
 use Rattle.schedule.specs.Run.{entryOf}
-use Rattle.schedule.specs.Book.{newCall, withCall, withRefusal, withStart, absentFrom, takesOut, withAbsent, missed, waitBook, turnBook, withFinish, withDecision, nextBook, nextWords, bookAfter, wordsAfter}
+use Rattle.schedule.specs.Book.{newCall, withCall, withRefusal, withStart, absentFrom, takesOut, withAbsent, missed}
+use Rattle.schedule.specs.Book.{waitBook, turnBook, withFinish, withDecision, nextBook, nextWords, bookAfter, wordsAfter}
 
 -- a turn opens no call
 pub turn-opened : (book : Book) (arena : List ℕ) (before after : Worker) (report : Report) (time : ℕ) →

@@ -16,6 +16,11 @@ pub at-least : (k x : ℕ) → NoneBelow k x → k ≤ x
 at-least zero x h = zero-le
 at-least (suc k) x h = let l = at-least k x (h .0) in omega (arith, l, h .1)
 
+-- a test that cannot hold
+pub not-held : (t : Bool) → (t ≡ true → ⊥) → t ≡ false
+not-held true out = absurd (out refl)
+not-held false out = refl
+
 -- a range's test, decided by the bounds
 module _ (low high n : ℕ) where
   pub in-range : low ≤ n → n ≤ high → within low high n ≡ true

@@ -12,6 +12,7 @@ use types.Run.{OneOf, hit, miss}
 use Rattle.worker.specs.Worker.{among}
 use Rattle.worker.specs.Turn.{readsPred, readsCurr, readsSpare, placed}
 use Rattle.worker.specs.declared.Worker.{Worker}
+use Rattle.worker.proofs.Laws.{not-held}
 
 -- an arm of a match that names several numbers knows that the number is one of them, and the arms after it that it is none
 among-keys : (keys : List ℕ) (n : ℕ) → among keys n ≡ hasKey keys n
@@ -27,11 +28,7 @@ module _ (keys : List ℕ) (n : ℕ) where
       go false out = absurd (out tt)
 
   pub not-listed : (OneOf keys n → ⊥) → among keys n ≡ false
-  not-listed none = rw among-keys (go (hasKey keys n) (λ h. none (hit keys n h)))
-    where
-      go : (t : Bool) → (T t → ⊥) → t ≡ false
-      go true out = absurd (out tt)
-      go false out = refl
+  not-listed none = rw among-keys (not-held (hasKey keys n) (λ has. none (hit keys n (rw has tt))))
 
 -- a test that holds of every number below a bound
 abbrev pub allBelow : ℕ → (ℕ → Bool) → Bool

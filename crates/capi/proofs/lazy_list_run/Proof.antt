@@ -1,22 +1,8 @@
+-- What a run answers, as one number and four totals; only a run that is done replies 0.
 use borrow.Author.Needs.{needs}
 use Rattle.capi.proofs.NumberLaws.{run-tells, zero-done}
 use Rattle.capi.proofs.lazy_list_run.Statement.{statement}
 use Rattle.capi.proofs.lazy_list_run.Tie as tie
-
-run-requires : tie.Need-run-requires
-run-requires c κs = search needs
-
-write-totals-requires : tie.Need-write-totals-requires
-write-totals-requires c κs = search needs
-
-of-summary-requires : tie.Need-of-summary-requires
-of-summary-requires c κs = search needs
-
-same-length : tie.Need-same-length
-same-length c = search needs
-
-same-length-2 : tie.Need-same-length-2
-same-length-2 c = search needs
 
 returns : tie.Need-returns
 returns c =
@@ -36,12 +22,4 @@ returns c =
     )
 
 pub lazy-list-run-spec : {M : Type 1} → statement M
-lazy-list-run-spec =
-    tie.close
-    (tie.spec
-    run-requires
-    write-totals-requires
-    of-summary-requires
-    same-length
-    same-length-2
-    returns)
+lazy-list-run-spec = tie.close (tie.spec (search needs) (search needs) (search needs) (search needs) (search needs) returns)

@@ -23,13 +23,9 @@ impl Library for PlainRust {
         Model.turn(arena, worker)
     }
 
-    /// Not the model's, which allocates.
     #[inline(never)]
     fn snapshot(&self, arena: &[u16], keys: &mut [u16]) -> u32 {
-        match plain::snapshot(arena, keys) {
-            Ok(count) => 256 * count as u32,
-            Err(refusal) => u32::from(refusal),
-        }
+        Model.snapshot(arena, keys)
     }
 
     /// Not the model's, which keeps the set at every time.

@@ -26,4 +26,7 @@ outside c =
 
 pub read-node-spec : {M : Type 1} → statement M
 read-node-spec =
-    tie.close (tie.spec (search needs) (search needs) (search needs) (search needs) (search needs) (search needs) (search needs) (search needs) (search needs) (search needs) (search needs) (search needs) (search needs) inside (search needs) (search needs) (search needs) (search needs) outside)
+    tie.close
+    (tie.spec (search needs) (search needs) (search needs) (search needs) (search needs) (search needs) (search needs) (search needs)
+    (search needs) (search needs) (search needs) (search needs) (search needs) inside (search needs) (search needs) (search needs)
+    (search needs) outside)

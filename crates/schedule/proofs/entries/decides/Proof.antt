@@ -3,7 +3,7 @@ use Prim.Native.Nat.{ℕ}
 use mathlib.Core.Path.{_≡_, refl}
 use mathlib.Core.Logic.{_⊎_, inl, inr}
 use mathlib.Core.List.{[], _∷_}
-use mathlib.Core.Bool.{Bool, true, false, or-false}
+use mathlib.Core.Bool.{true, or-false}
 use native.Mathlib.Omega.{arith}
 use lib.Dec.{eqb}
 use types.Run.{OneOf}
@@ -11,7 +11,7 @@ use borrow.Author.Tests.{ne-eqb}
 use Rattle.worker.specs.Worker.{within}
 use Rattle.worker.specs.Report.{answerNumber}
 use Rattle.worker.specs.declared.report.Answer.the-variants.{No}
-use Rattle.worker.proofs.Laws.{range-bounds}
+use Rattle.worker.proofs.Laws.{not-held, range-bounds}
 use Rattle.linear.specs.History.{decides}
 use Rattle.schedule.proofs.entries.decides.Statement.{statement}
 use Rattle.schedule.proofs.entries.decides.Tie as tie
@@ -53,14 +53,10 @@ elsewhere c =
     rw (
       ne-eqb stage 13 (λ e. others .0 .0 .0 .1 (inl e)),
       ne-eqb stage 14 (others .0 .0 .1),
-      outside (within 15 16 stage) (λ e. omega (arith, range-bounds 15 16 stage e, not-15, not-16)),
+      not-held (within 15 16 stage) (λ e. omega (arith, range-bounds 15 16 stage e, not-15, not-16)),
       ne-eqb stage 23 (λ e. others .0 .0 .0 .1 (inr e)),
       ne-eqb stage 25 (λ e. others .0 .1 (inr e)),
     )
-  where
-    outside : (t : Bool) → (t ≡ true → ⊥) → t ≡ false
-    outside true out = absurd (out refl)
-    outside false out = refl
 
 pub decides-spec : {M : Type 1} → statement M
 decides-spec = tie.close (tie.spec with-no with-full at-once at-16 elsewhere)

@@ -49,4 +49,5 @@ reported c =
 pub enter-turn-spec : {M : Type 1} → statement M
 enter-turn-spec =
     tie.close
-    (tie.spec (search needs) (search needs) (search needs) (search needs) (search needs) (search needs) (search needs) (search needs) (search needs) (search needs) refused (search needs) (search needs) reported)
+    (tie.spec (search needs) (search needs) (search needs) (search needs) (search needs) (search needs) (search needs) (search needs)
+    (search needs) (search needs) refused (search needs) (search needs) reported)

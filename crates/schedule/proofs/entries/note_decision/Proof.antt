@@ -24,4 +24,6 @@ stays c = rw (← c .before .decides .ensures, c .if1 .left)
 
 pub note-decision-spec : {M : Type 1} → statement M
 note-decision-spec =
-    tie.close (tie.spec (search needs) (search needs) (search needs) (search needs) (search needs) (search needs) (search needs) (search needs) decided stays)
+    tie.close
+    (tie.spec (search needs) (search needs) (search needs) (search needs) (search needs) (search needs) (search needs) (search needs)
+    decided stays)

@@ -21,4 +21,6 @@ unfolding withFinish
 stays c = rw (← c .before .is-finished .ensures, c .if1 .left)
 
 pub note-finish-spec : {M : Type 1} → statement M
-note-finish-spec = tie.close (tie.spec (search needs) (search needs) (search needs) (search needs) (search needs) (search needs) finished stays)
+note-finish-spec =
+    tie.close
+    (tie.spec (search needs) (search needs) (search needs) (search needs) (search needs) (search needs) finished stays)
