@@ -11,7 +11,7 @@ use std::time::Duration;
 
 use crate::bench::{evaluate, render, Outcome};
 use crate::generate::{generate, Generated};
-use crate::linearizable::{check_times, explained};
+use crate::linearizable::{check_times, check_told, explained};
 use crate::run::Trace;
 use crate::sequential;
 use crate::tally::{Tally, SEARCHED, SEQUENTIAL};
@@ -124,6 +124,7 @@ fn check_history(trace: &Trace, tally: &mut Tally) -> Result<(), String> {
     let empty = Vec::new();
     let last_set = trace.sets.last().unwrap_or(&empty);
     check_times(&trace.calls)?;
+    check_told(&trace.calls, &trace.told)?;
     sequential::check(&trace.calls, last_set)?;
     tally.met(SEQUENTIAL, 1);
     match explained(&trace.calls, last_set) {

@@ -1,5 +1,5 @@
 //! A search for some order that explains a history, knowing nothing of points; and the limits that
-//! points must keep to.
+//! points and reported answers must keep to.
 
 use std::collections::{BTreeSet, HashSet};
 
@@ -23,6 +23,17 @@ pub fn check_times(calls: &[Call]) -> Result<(), String> {
             return Err(format!("times out of order in {call:?}"));
         }
         last_start = call.start;
+    }
+    Ok(())
+}
+
+/// A finished call's worker reported the answer of the call's record, and no other call's reported any.
+pub fn check_told(calls: &[Call], told: &[u16]) -> Result<(), String> {
+    for (call, &told) in calls.iter().zip(told) {
+        let answer = if call.finish == 0 { 0 } else { call.answer };
+        if told != answer {
+            return Err(format!("told {told} at the finish of {call:?}"));
+        }
     }
     Ok(())
 }

@@ -39,6 +39,8 @@ pub struct Trace {
     pub calls: Vec<Call>,
     /// Per call the time of the turn that decided its answer, or 0.
     pub decided: Vec<u16>,
+    /// Per call the answer that its worker reported at its finish, or 0.
+    pub told: Vec<u16>,
     /// The set at every time (document 01: moment); time 0 is the fresh arena.
     pub sets: Vec<Vec<u16>>,
     /// Refused entries by refusal number.
@@ -132,6 +134,7 @@ impl Trace {
             ..Call::default()
         });
         self.decided.push(0);
+        self.told.push(0);
         Ok(())
     }
 
@@ -145,8 +148,9 @@ impl Trace {
         self.sets.push(set(arena));
         match (report, self.current[worker as usize]) {
             (Report::Waits, _) => self.totals.waits += 1,
-            (Report::Finished(_), Some(call)) => {
+            (Report::Finished(answer), Some(call)) => {
                 self.calls[call].finish = self.time();
+                self.told[call] = answer.number();
                 self.current[worker as usize] = None;
             }
             (Report::Moved(_), Some(call)) => {

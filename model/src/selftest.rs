@@ -4,7 +4,7 @@
 use crate::arena::*;
 use crate::bench::{bench, evaluate, Outcome};
 use crate::limits::CASES;
-use crate::linearizable::{check_times, explained};
+use crate::linearizable::{check_times, check_told, explained};
 use crate::rng::Rng;
 use crate::run::Call;
 use crate::selftest_plain;
@@ -106,6 +106,7 @@ pub fn selftest() -> Checks {
     turns_of_calls(&mut checks);
     right_histories(&mut checks);
     wrong_histories(&mut checks);
+    told_answers(&mut checks);
     selftest_refusals::refusals(&mut checks);
     selftest_words::any_words(&mut checks);
     selftest_plain::plain_runs(&mut checks);
@@ -252,6 +253,24 @@ fn wrong_histories(checks: &mut Checks) {
     checks.check("point at finish", check_times(&calls).is_err());
     let (calls, _) = wrong(|contains| contains.point = 0);
     checks.check("answer without point", check_times(&calls).is_err());
+}
+
+/// What the workers reported passes; another answer, one too early and one left out don't.
+fn told_answers(checks: &mut Checks) {
+    let Outcome::Ran(trace, _) = evaluate(LISTING_INPUT.as_bytes()) else {
+        return checks.check("the listing runs", false);
+    };
+    checks.check("told", check_told(&trace.calls, &trace.told).is_ok());
+    for call in 0..trace.told.len() {
+        let mut told = trace.told.clone();
+        told[call] = told[call] % 3 + 1;
+        checks.check("told another", check_told(&trace.calls, &told).is_err());
+        told[call] = 0;
+        checks.check("told nothing", check_told(&trace.calls, &told).is_err());
+        let mut calls = trace.calls.clone();
+        calls[call].finish = 0;
+        checks.check("told early", check_told(&calls, &trace.told).is_err());
+    }
 }
 
 #[cfg(test)]

@@ -12,7 +12,7 @@ use lib.Dec.{eqb}
 use borrow.Author.Tests.{eqb-true, eq-eqb, ltb-false, not-false}
 use Rattle.arena.specs.Layout.{word, headerWidth, layoutNumber, nodesFrom, total, goodCounts, headerWords, layoutOf, workersOf, nodesOf, nodesFromOf, totalOf}
 use Rattle.arena.specs.Replies.{accepted, replied}
-use Rattle.arena.specs.Header.{agrees, isHeader, headerRefusals}
+use Rattle.arena.specs.Header.{agrees, isHeader, HeaderOfSome, headerRefusals}
 use Rattle.arena.proofs.Bounds.{Counts, counts}
 use Rattle.arena.proofs.Judged.{none-holds}
 
@@ -62,14 +62,7 @@ header-holds arena e =
       end = agrees-at arena (headerWords (layoutOf arena) (workersOf arena) (nodesOf arena)) 0 5 (all .1) (omega arith);
     }
 
--- document 01's words for the test: the 8 words are the header of some W and N
-abbrev pub HeaderOfSome : List ℕ → Type 0
-HeaderOfSome arena =
-    (workers : ℕ)
-    × (nodes : ℕ)
-    × (goodCounts workers nodes ≡ true)
-    × (take headerWidth arena ≡ headerWords layoutNumber workers nodes)
-
+-- the test is document 01's
 pub header-of-some : (arena : List ℕ) → headerWidth ≤ length arena → (isHeader arena ≡ true) ↔ HeaderOfSome arena
 unfolding isHeader headerWords
 header-of-some arena h = (forth, back)

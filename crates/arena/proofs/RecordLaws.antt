@@ -1,22 +1,19 @@
 -- Laws of a worker's record in an arena, and of a start, which writes one.
 use Prim.Native.Nat.{ℕ, _+_, _≤_, _<_}
-use mathlib.Core.Path.{_≡_, refl}
-use mathlib.Core.Logic.{_⊎_, ⊎-elim}
+use mathlib.Core.Path.{_≡_, refl, subst}
+use mathlib.Core.Logic.{⊎-elim}
 use mathlib.Core.List.{List}
 use native.Mathlib.Omega.{arith}
+use native.Mathlib.Nat.{add-zero}
 use lib.ListN.{length}
 use lib.Seq.{sets}
 use Rattle.worker.specs.declared.Worker.{Worker}
 use Rattle.worker.specs.Worker.{startedWorker}
 use Rattle.worker.proofs.RefusalLaws.{judged-keeps}
 use Rattle.arena.specs.Layout.{word, workerWidth, workerFrom}
-use Rattle.arena.specs.Records.{workerWords, workerAt, withWorker}
+use Rattle.arena.specs.Records.{workerWords, workerAt, withWorker, Outside}
 use Rattle.arena.specs.Start.{startRefusals, startArena}
-use Rattle.arena.proofs.Runs.{sets-outside, sets-at}
-
--- a place outside the record of a worker
-abbrev pub Outside : ℕ → ℕ → Type 0
-Outside worker at = (at < workerFrom worker) ⊎ (workerFrom worker + workerWidth ≤ at)
+use Rattle.arena.proofs.Runs.{sets-outside, sets-at, run, sets-run}
 
 module _ (arena : List ℕ) (worker : ℕ) (w : Worker) where
   -- the record that was written is read back
@@ -42,6 +39,13 @@ module _ (arena : List ℕ) (worker : ℕ) (w : Worker) where
   others-stay at outside =
       sets-outside (workerWords w) arena (workerFrom worker) at
       (λ k h e. ⊎-elim (λ before. omega arith) (λ behind. omega arith) outside)
+
+-- a record written as it stands changes nothing
+pub rewritten : (arena : List ℕ) (worker : ℕ) → withWorker arena worker (workerAt arena worker) ≡ arena
+unfolding workerAt withWorker
+rewritten arena worker =
+    subst (λ at. sets arena at (run arena (workerFrom worker) 0 workerWidth) ≡ arena) (add-zero (workerFrom worker))
+    (sets-run workerWidth arena (workerFrom worker) 0)
 
 -- a start writes the worker's record and nothing else
 pub start-writes : (arena : List ℕ) (worker operation key at : ℕ) → Outside worker at →

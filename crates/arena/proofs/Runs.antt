@@ -1,13 +1,13 @@
 -- Runs of words: written one after the other, and compared.
 use Prim.Native.Nat.{ℕ, zero, suc, _+_, _*_, _-_, _≤_, _<_}
-use mathlib.Core.Path.{_≡_, refl, sym, _∙_}
+use mathlib.Core.Path.{_≡_, refl, sym, ap, subst, _∙_}
 use mathlib.Core.List.{List, [], _∷_, _++_, append-nil, append-assoc, flatten}
 use mathlib.Core.Bool.{true, false}
 use native.Mathlib.Nat.{zero-add, add-zero, add-suc, suc-add, add-comm, mul-zero, mul-suc}
 use native.Mathlib.Numerals.{add-one, sub-one}
 use native.Mathlib.Omega.{arith}
 use lib.ListN.{length, drop, set, replicate, length-append, length-set, length-replicate, replicate-append-replicate, drop-of-length-le}
-use lib.Seq.{sets, sets-eq, set-out, set-at, getD-set-same, getD-set-other, drop-cons, drop-length, append-snoc}
+use lib.Seq.{sets, sets-eq, set-out, set-at, getD-set-same, getD-set-other, set-getD, set-append-left, drop-cons, drop-length, append-snoc}
 use borrow.Author.Tests.{eq-eqb, ne-eqb}
 use borrow.Rule.Slice.PartMut.{putMid, post-is}
 use Rattle.arena.specs.Layout.{word}
@@ -77,6 +77,25 @@ sets-at (v ∷ vs) l i zero h g =
     (sets-outside vs (set l i v) (suc i) i (λ k h e. omega arith) ∙ getD-set-same l i v 0 (omega arith))
 sets-at (v ∷ vs) l i (suc k) h g =
     rw (add-suc, ← suc-add) (sets-at vs (set l i v) (suc i) k (omega arith) (rw length-set (omega arith)))
+
+-- the words as they stand, so many from a place on
+abbrev pub run : List ℕ → ℕ → ℕ → ℕ → List ℕ
+run l i k zero = []
+run l i k (suc n) = word l (i + k) ∷ run l i (suc k) n
+
+-- written where they stand they change nothing
+pub sets-run : (n : ℕ) (l : List ℕ) (i k : ℕ) → sets l (i + k) (run l i k n) ≡ l
+sets-run zero l i k = refl
+sets-run (suc n) l i k =
+    ap (λ words. sets words (suc (i + k)) (run l i (suc k) n)) (set-getD l (i + k) 0)
+    ∙ subst (λ at. sets l at (run l i (suc k) n) ≡ l) (add-suc i k) (sets-run n l i (suc k))
+
+-- a run within some words is written there, whatever stands behind them
+pub sets-front : (vs l more : List ℕ) (i : ℕ) → i + length vs ≤ length l → sets (l ++ more) i vs ≡ sets l i vs ++ more
+sets-front [] l more i h = refl
+sets-front (v ∷ vs) l more i h =
+    ap (λ words. sets words (suc i) vs) (set-append-left l more i v (omega arith))
+    ∙ sets-front vs (set l i v) more (suc i) (rw length-set (omega arith))
 
 -- a comparison past words that agree, at words that differ, and at its end
 pub agrees-on : (words vs : List ℕ) (k : ℕ) → k < length vs → word words k ≡ word vs k → agrees words k (drop k vs) ≡ agrees words (k + 1) (drop (k + 1) vs)

@@ -1,10 +1,11 @@
 -- Worker and node records as words of an arena.
-use Prim.Native.Nat.{ℕ, _+_}
+use Prim.Native.Nat.{ℕ, _+_, _≤_, _<_}
+use mathlib.Core.Logic.{_⊎_}
 use mathlib.Core.List.{List, [], _∷_}
 use lib.Seq.{sets}
 use Rattle.worker.specs.declared.Node.{Node}
 use Rattle.worker.specs.declared.Worker.{Worker}
-use Rattle.arena.specs.Layout.{word, workerStage, workerOperation, workerKey, workerPred, workerCurr, workerSpare, workerAnswer, workerReserved, nodeKey, nodeNext, nodeMark, nodeOwner, workerFrom, slot}
+use Rattle.arena.specs.Layout.{word, workerStage, workerOperation, workerKey, workerPred, workerCurr, workerSpare, workerAnswer, workerReserved, nodeKey, nodeNext, nodeMark, nodeOwner, workerWidth, workerFrom, slot}
 
 -- worker record, 8 words: stage, operation, key, pred, curr, spare, answer, 0
 abbrev pub workerWords : Worker → List ℕ
@@ -28,6 +29,10 @@ workerAt arena worker =
 -- the arena with the record of a worker written
 unfoldable pub withWorker : List ℕ → ℕ → Worker → List ℕ
 withWorker arena worker w = sets arena (workerFrom worker) (workerWords w)
+
+-- a place outside the record of a worker: a start writes no such word (`RecordLaws.start-writes`)
+abbrev pub Outside : ℕ → ℕ → Type 0
+Outside worker at = (at < workerFrom worker) ⊎ (workerFrom worker + workerWidth ≤ at)
 
 -- node record, 4 words: key, next, mark, owner
 abbrev pub nodeWords : Node → List ℕ

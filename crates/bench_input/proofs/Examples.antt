@@ -7,10 +7,10 @@ use mathlib.Core.Option.{Option, none, some}
 use Rattle.bench_input.specs.Bytes.{bytesOf, parts, same}
 use Rattle.bench_input.specs.Numbers.{allDigits, wellBegun, valueOf, digitsValue, numberOf}
 use Rattle.bench_input.specs.Lines.{turnLine, commandLine, lineOf}
-use Rattle.bench_input.specs.Input.{entry, Outcome, planned, badLine, withLine, linesFrom, outcomeOf}
+use Rattle.bench_input.specs.Input.{entry, Reading, planned, badLine, withLine, linesFrom, readingOf}
 
 -- the number of the bad line of an input, if there is one
-abbrev verdict : Outcome → Option ℕ
+abbrev verdict : Reading → Option ℕ
 verdict (planned workers nodes entries) = none
 verdict (badLine line entries) = some line
 
@@ -51,12 +51,12 @@ inputs =
     ∷ ("board 2 3\nadd 0 5\nturn 0 4000\n", some 3)
     ∷ []
 
-verdicts : map (λ row. verdict (outcomeOf (bytesOf (row .0)))) inputs ≡ map (λ row. row .1) inputs
-unfolding inputs parts same allDigits wellBegun valueOf digitsValue numberOf turnLine commandLine lineOf withLine linesFrom outcomeOf
+verdicts : map (λ row. verdict (readingOf (bytesOf (row .0)))) inputs ≡ map (λ row. row .1) inputs
+unfolding inputs parts same allDigits wellBegun valueOf digitsValue numberOf turnLine commandLine lineOf withLine linesFrom readingOf
 verdicts = refl
 
 -- entries are those of the good lines before the first bad one
-entries : outcomeOf (bytesOf "board 2 3\nadd 0 5\nturn 1 2\nremove 0 7\nadd 1 07\n") ≡
+entries : readingOf (bytesOf "board 2 3\nadd 0 5\nturn 1 2\nremove 0 7\nadd 1 07\n") ≡
     badLine 5 (entry 0 1 5 ∷ entry 1 0 0 ∷ entry 1 0 0 ∷ entry 0 2 7 ∷ [])
-unfolding parts same allDigits wellBegun valueOf digitsValue numberOf turnLine commandLine lineOf withLine linesFrom outcomeOf
+unfolding parts same allDigits wellBegun valueOf digitsValue numberOf turnLine commandLine lineOf withLine linesFrom readingOf
 entries = refl

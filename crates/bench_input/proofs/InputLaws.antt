@@ -17,8 +17,8 @@ use Rattle.arena.specs.Layout.{goodCounts}
 use Rattle.arena.proofs.Runs.{sets-append, length-copies}
 use Rattle.bench_input.specs.Bytes.{lineFeed, parts, placeOf}
 use Rattle.bench_input.specs.Lines.{mostEntries, lineOf}
-use Rattle.bench_input.specs.Input.{mostBytes, entry, Outcome, planned, badLine, withLine, linesFrom, boardLine, inputLines}
-use Rattle.bench_input.specs.Input.{outcomeOf, answerOf, scheduled}
+use Rattle.bench_input.specs.Input.{mostBytes, entry, Reading, planned, badLine, withLine, linesFrom, boardLine, inputLines}
+use Rattle.bench_input.specs.Input.{readingOf, parsedOf, scheduled}
 use Rattle.bench_input.specs.declared.lines.Line.{Line}
 use Rattle.bench_input.specs.declared.lines.Line.the-variants.{Board, Entries, Bad}
 use Rattle.bench_input.specs.declared.Parsed.{Parsed}
@@ -27,8 +27,8 @@ use Rattle.bench_input.proofs.lines.Line.{the-type}
 use Rattle.bench_input.proofs.LineLaws.{behind, some-part, one-part, more-parts}
 
 -- what `parse` promises
-abbrev pub Says : Outcome → List ℕ → Parsed → List ℕ → Type 0
-Says outcome schedule answer words = (answer ≡ answerOf outcome) × (words ≡ scheduled schedule outcome)
+abbrev pub Says : Reading → List ℕ → Parsed → List ℕ → Type 0
+Says reading schedule answer words = (answer ≡ parsedOf reading) × (words ≡ scheduled schedule reading)
 
 -- a line that gives no entries: `board W N`, or a bad one
 pub not-entries : (entries : List (List ℕ)) (line : Line) → OneOf (0 ∷ 2 ∷ []) (tagOf the-type line) → withLine entries line ≡ none
@@ -55,7 +55,7 @@ flatten-append (x ∷ xs) ys = rw (flatten-append xs ys) (sym (append-assoc x (f
 
 module _ (workers nodes : ℕ) where
   -- what all lines from the second on give
-  abbrev pub allLines : List ℕ → Outcome
+  abbrev pub allLines : List ℕ → Reading
   allLines text = linesFrom workers nodes 2 [] (parts lineFeed text)
 
   -- what has been read of a text, where `rest` is left of it: the entries so far stand in the schedule
@@ -106,7 +106,7 @@ module _ (workers nodes : ℕ) where
     -- a line is bad
     stopped : linesFrom workers nodes line (r .entries) (parts lineFeed rest) ≡ badLine line (r .entries) →
         Says (allLines text) schedule (BadLine line) words
-    stopped e = (sym (ap answerOf (r .onward ∙ e)), r .written ∙ sym (ap (scheduled schedule) (r .onward ∙ e)))
+    stopped e = (sym (ap parsedOf (r .onward ∙ e)), r .written ∙ sym (ap (scheduled schedule) (r .onward ∙ e)))
 
     pub read-not-ended : (at : ℕ) → at ≡ placeOf lineFeed rest → length rest ≤ at → 0 < length rest →
         Says (allLines text) schedule (BadLine line) words
@@ -121,7 +121,7 @@ module _ (workers nodes : ℕ) where
         Says (allLines text) schedule (Planned (record { workers = workers; nodes = nodes; entries = count })) words
     read-all h =
         let e = r .onward ∙ all-ended line (r .entries) rest h in
-        (rw (← r .counted) (sym (ap answerOf e)), r .written ∙ sym (ap (scheduled schedule) e))
+        (rw (← r .counted) (sym (ap parsedOf e)), r .written ∙ sym (ap (scheduled schedule) e))
 
     -- a line of entries is read
     pub read-on : (at worker act key more : ℕ) (after : List ℕ) → at ≡ placeOf lineFeed rest → at < length rest →
@@ -142,31 +142,31 @@ module _ (workers nodes : ℕ) where
         }
 
 -- an input that is bad before any entry leaves the schedule
-pub nothing-written : (input schedule : List ℕ) (line : ℕ) → outcomeOf input ≡ badLine line [] →
-    Says (outcomeOf input) schedule (BadLine line) schedule
+pub nothing-written : (input schedule : List ℕ) (line : ℕ) → readingOf input ≡ badLine line [] →
+    Says (readingOf input) schedule (BadLine line) schedule
 unfolding flatten
-nothing-written input schedule line e = (sym (ap answerOf e), sym (ap (scheduled schedule) e))
+nothing-written input schedule line e = (sym (ap parsedOf e), sym (ap (scheduled schedule) e))
 
-pub too-long : (input : List ℕ) → mostBytes < length input → outcomeOf input ≡ badLine 0 []
-unfolding outcomeOf
+pub too-long : (input : List ℕ) → mostBytes < length input → readingOf input ≡ badLine 0 []
+unfolding readingOf
 too-long input h = rw (lt-ltb mostBytes (length input) h)
 
 -- line 1
 module _ (input : List ℕ) (few : length input ≤ mostBytes) (at : ℕ) (found : at ≡ placeOf lineFeed input) where
-  pub no-line : length input ≤ at → outcomeOf input ≡ badLine 1 []
-  unfolding outcomeOf
+  pub no-line : length input ≤ at → readingOf input ≡ badLine 1 []
+  unfolding readingOf
   no-line h = rw (le-ltb mostBytes (length input) few, one-part lineFeed input at found h)
 
   module _ (h : at < length input) where
-    first-line : outcomeOf input ≡ boardLine (lineOf (take at input)) (parts lineFeed (behind at input))
-    unfolding outcomeOf
+    first-line : readingOf input ≡ boardLine (lineOf (take at input)) (parts lineFeed (behind at input))
+    unfolding readingOf
     first-line =
         rw (le-ltb mostBytes (length input) few, more-parts lineFeed input at found h)
         (some-part (λ ps. inputLines (take at input ∷ ps) ≡ boardLine (lineOf (take at input)) ps) (λ part others. refl)
         lineFeed (behind at input))
 
     pub not-board : (line : Line) → line ≡ lineOf (take at input) → OneOf (1 ∷ 2 ∷ []) (tagOf the-type line) →
-        outcomeOf input ≡ badLine 1 []
+        readingOf input ≡ badLine 1 []
     not-board line e t = first-line ∙ rw (← e) (go line t)
       where
         go : (line : Line) → OneOf (1 ∷ 2 ∷ []) (tagOf the-type line) → boardLine line (parts lineFeed (behind at input)) ≡ badLine 1 []
@@ -176,8 +176,8 @@ module _ (input : List ℕ) (few : length input ≤ mostBytes) (at : ℕ) (found
 
     -- `board W N`
     module _ (workers nodes : ℕ) (board : lineOf (take at input) ≡ Board workers nodes) where
-      pub bad-counts : goodCounts workers nodes ≡ false → outcomeOf input ≡ badLine 1 []
+      pub bad-counts : goodCounts workers nodes ≡ false → readingOf input ≡ badLine 1 []
       bad-counts e = first-line ∙ rw (board, e)
 
-      pub good-counts : goodCounts workers nodes ≡ true → outcomeOf input ≡ allLines workers nodes (behind at input)
+      pub good-counts : goodCounts workers nodes ≡ true → readingOf input ≡ allLines workers nodes (behind at input)
       good-counts e = first-line ∙ rw (board, e)

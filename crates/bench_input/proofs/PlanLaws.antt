@@ -14,8 +14,8 @@ use Rattle.arena.specs.Layout.{goodCounts}
 use Rattle.arena.proofs.Runs.{length-copies}
 use Rattle.bench_input.specs.Bytes.{lineFeed, parts}
 use Rattle.bench_input.specs.Lines.{mostEntries, lineOf}
-use Rattle.bench_input.specs.Input.{mostBytes, entry, Outcome, planned, badLine, withLine, linesFrom, boardLine, inputLines}
-use Rattle.bench_input.specs.Input.{outcomeOf, scheduled}
+use Rattle.bench_input.specs.Input.{mostBytes, entry, Reading, planned, badLine, withLine, linesFrom, boardLine, inputLines}
+use Rattle.bench_input.specs.Input.{readingOf, scheduled}
 use Rattle.bench_input.specs.declared.lines.Line.{Line}
 use Rattle.bench_input.specs.declared.lines.Line.the-variants.{Board, Entries, Bad}
 use Rattle.bench_input.proofs.InputLaws.{flatten-append}
@@ -26,7 +26,7 @@ pub record Fits (entries : List (List ℕ)) : Type 0 where
   pub sized : length (flatten entries) ≡ 3 * length entries
 
 -- good counts, and entries that fit
-abbrev pub Sound : Outcome → Type 0
+abbrev pub Sound : Reading → Type 0
 Sound (planned workers nodes entries) = (goodCounts workers nodes ≡ true) × Fits entries
 Sound (badLine line entries) = Unit
 
@@ -64,7 +64,7 @@ sound-lines workers nodes g line entries (text ∷ next ∷ others) f =
     go (withLine entries (lineOf text))
     (λ more e. sound-lines workers nodes g (suc line) more (next ∷ others) (fits-more entries more (lineOf text) f e))
   where
-    onward : List (List ℕ) → Outcome
+    onward : List (List ℕ) → Reading
     onward more = linesFrom workers nodes (suc line) more (next ∷ others)
 
     go : (o : Option (List (List ℕ))) → ((more : List (List ℕ)) → o ≡ some more → Sound (onward more)) →
@@ -72,8 +72,8 @@ sound-lines workers nodes g line entries (text ∷ next ∷ others) f =
     go none h = tt
     go (some more) h = h more refl
 
-sound : (input : List ℕ) → Sound (outcomeOf input)
-unfolding outcomeOf
+sound : (input : List ℕ) → Sound (readingOf input)
+unfolding readingOf
 sound input = go (ltb mostBytes (length input)) (parts lineFeed input)
   where
     counted : (workers nodes : ℕ) (others : List (List ℕ)) (t : Bool) → goodCounts workers nodes ≡ t →
@@ -93,12 +93,12 @@ sound input = go (ltb mostBytes (length input)) (parts lineFeed input)
     go false (text ∷ next ∷ others) = first (lineOf text) (next ∷ others)
 
 -- of a planned input: the counts are good, and the words of its schedule are those of its entries
-module _ (input : List ℕ) (workers nodes : ℕ) (entries : List (List ℕ)) (plan : outcomeOf input ≡ planned workers nodes entries) where
+module _ (input : List ℕ) (workers nodes : ℕ) (entries : List (List ℕ)) (plan : readingOf input ≡ planned workers nodes entries) where
   pub planned-sound : (goodCounts workers nodes ≡ true) × Fits entries
-  planned-sound = subst (λ (o : Outcome). Sound o) plan (sound input)
+  planned-sound = subst (λ (o : Reading). Sound o) plan (sound input)
 
   pub planned-words : (schedule : List ℕ) → 3 * mostEntries ≤ length schedule →
-      take (3 * length entries) (scheduled schedule (outcomeOf input)) ≡ flatten entries
+      take (3 * length entries) (scheduled schedule (readingOf input)) ≡ flatten entries
   planned-words schedule h =
       let f = planned-sound .1 in
       rw (plan, sets-eq (flatten entries) schedule 0 (omega (arith, f .few, f .sized)), zero-add)

@@ -23,9 +23,9 @@ abbrev pub entry : ℕ → ℕ → ℕ → List ℕ
 entry worker act key = worker ∷ act ∷ key ∷ []
 
 -- what an input says: W, N and the entries; or the number of the first bad line, and the entries of the lines before it
-pub data Outcome : Type 0 where
-  planned : ℕ → ℕ → List (List ℕ) → Outcome
-  badLine : ℕ → List (List ℕ) → Outcome
+pub data Reading : Type 0 where
+  planned : ℕ → ℕ → List (List ℕ) → Reading
+  badLine : ℕ → List (List ℕ) → Reading
 
 -- the entries with those of a line behind them; none, where the line is not one of entries or passes 4,000 entries
 unfoldable pub withLine : List (List ℕ) → Line → Option (List (List ℕ))
@@ -37,7 +37,7 @@ withLine entries Bad = none
 module _ (workers nodes : ℕ) where
   -- The lines from a number on, where `entries` are those of the lines before. The last text stands behind the last LF:
   -- it must be empty, since it is no line that ends with LF. There is always a last text.
-  unfoldable pub linesFrom : ℕ → List (List ℕ) → List (List ℕ) → Outcome
+  unfoldable pub linesFrom : ℕ → List (List ℕ) → List (List ℕ) → Reading
   linesFrom line entries [] = badLine line entries
   linesFrom line entries ([] ∷ []) = planned workers nodes entries
   linesFrom line entries ((byte ∷ text) ∷ []) = badLine line entries
@@ -47,31 +47,31 @@ module _ (workers nodes : ℕ) where
       (badLine line entries)
 
 -- line 1 is `board W N`, with good counts
-abbrev pub boardLine : Line → List (List ℕ) → Outcome
+abbrev pub boardLine : Line → List (List ℕ) → Reading
 boardLine (Board workers nodes) others = cond (goodCounts workers nodes) (linesFrom workers nodes 2 [] others) (badLine 1 [])
 boardLine (Entries worker act key count) others = badLine 1 []
 boardLine Bad others = badLine 1 []
 
 -- an input without LF, as the empty one, has no good line: line 1
-abbrev pub inputLines : List (List ℕ) → Outcome
+abbrev pub inputLines : List (List ℕ) → Reading
 inputLines [] = badLine 1 []
 inputLines (text ∷ []) = badLine 1 []
 inputLines (text ∷ next ∷ others) = boardLine (lineOf text) (next ∷ others)
 
 -- line 0 for too many bytes
-unfoldable pub outcomeOf : List ℕ → Outcome
-outcomeOf input = cond (ltb mostBytes (length input)) (badLine 0 []) (inputLines (parts lineFeed input))
+unfoldable pub readingOf : List ℕ → Reading
+readingOf input = cond (ltb mostBytes (length input)) (badLine 0 []) (inputLines (parts lineFeed input))
 
 -- the answer: W, N and the number of the entries, or the number of the bad line
-abbrev pub answerOf : Outcome → Parsed
-answerOf (planned workers nodes entries) = Planned (record { workers = workers; nodes = nodes; entries = length entries })
-answerOf (badLine line entries) = BadLine line
+abbrev pub parsedOf : Reading → Parsed
+parsedOf (planned workers nodes entries) = Planned (record { workers = workers; nodes = nodes; entries = length entries })
+parsedOf (badLine line entries) = BadLine line
 
 -- the words of the entries
-abbrev pub wordsOf : Outcome → List ℕ
+abbrev pub wordsOf : Reading → List ℕ
 wordsOf (planned workers nodes entries) = flatten entries
 wordsOf (badLine line entries) = flatten entries
 
 -- what a schedule holds at the end: the entries of the good lines before the first bad one, from its first word on; further words stay
-abbrev pub scheduled : List ℕ → Outcome → List ℕ
-scheduled schedule outcome = sets schedule 0 (wordsOf outcome)
+abbrev pub scheduled : List ℕ → Reading → List ℕ
+scheduled schedule reading = sets schedule 0 (wordsOf reading)

@@ -5,7 +5,7 @@ ghost use Prim.Native.Nat.{_*_, _≤_};
 ghost use lib.ListN.{length, replicate};
 ghost use lib.Seq.{sets};
 ghost use Rattle.bench_input.specs.Bytes.{lineFeed, parts};
-ghost use Rattle.bench_input.specs.Input.{mostBytes, entry, linesFrom, outcomeOf, answerOf, scheduled};
+ghost use Rattle.bench_input.specs.Input.{mostBytes, entry, linesFrom, readingOf, parsedOf, scheduled};
 use crate::Parsed;
 use crate::Plan;
 use crate::bytes::LINE_FEED;
@@ -21,8 +21,8 @@ const MOST_BYTES: usize = 16384;
 // Reads an input and writes the entries of its schedule, three words each. Where a line is bad, the entries of the lines before it
 // have been written.
 pub fn parse(input: &[u8], schedule: &mut [u16]) -> Parsed
-    ensures answer { λ r. ⌜ r ≡ answerOf (outcomeOf (now (input .entry))) ⌝ }
-    ensures words { λ _. ⌜ now (schedule .exit) ≡ scheduled (now (schedule .entry)) (outcomeOf (now (input .entry))) ⌝ }
+    ensures answer { λ r. ⌜ r ≡ parsedOf (readingOf (now (input .entry))) ⌝ }
+    ensures words { λ _. ⌜ now (schedule .exit) ≡ scheduled (now (schedule .entry)) (readingOf (now (input .entry))) ⌝ }
 {
     if MOST_BYTES < input.len() {
         return Parsed::BadLine(0);
@@ -43,7 +43,7 @@ pub fn parse(input: &[u8], schedule: &mut [u16]) -> Parsed
 // The lines from the second on.
 fn parse_entries(text: &[u8], workers: u16, nodes: u16, schedule: &mut [u16]) -> Parsed
     requires { ⌜ length (now text) ≤ mostBytes ⌝ }
-    ensures answer { λ r. ⌜ r ≡ answerOf (linesFrom workers nodes 2 [] (parts lineFeed (now (text .entry)))) ⌝ }
+    ensures answer { λ r. ⌜ r ≡ parsedOf (linesFrom workers nodes 2 [] (parts lineFeed (now (text .entry)))) ⌝ }
     ensures words { λ _. ⌜ now (schedule .exit) ≡
         scheduled (now (schedule .entry)) (linesFrom workers nodes 2 [] (parts lineFeed (now (text .entry)))) ⌝ }
 {

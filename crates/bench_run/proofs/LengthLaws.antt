@@ -16,7 +16,7 @@ use Rattle.arena.proofs.Bounds.{counts}
 use Rattle.arena.proofs.Judged.{judged-refused, judged-accepted}
 use Rattle.arena.proofs.ShortChains.{keys-few}
 use Rattle.linear.specs.History.{calls, totals}
-use Rattle.linear.proofs.Timeline.{Schedule, last, arena, sound}
+use Rattle.linear.proofs.Timeline.{freshSchedule, Schedule, last, arena, sound}
 use Rattle.schedule.specs.declared.Call.{Call}
 use Rattle.schedule.specs.declared.Totals.{Totals}
 use Rattle.schedule.specs.Run.{entriesOf, runRefusals, recordsOf, recordOf, totalsOf}
@@ -24,9 +24,10 @@ use Rattle.schedule.proofs.Booked.{starts}
 use Rattle.schedule.proofs.HistoryLaws.{Accepted, run-passed}
 use Rattle.schedule.proofs.Running.{calls-fit}
 use Rattle.bench_input.specs.Bytes.{bytesOf}
-use Rattle.bench_input.specs.Input.{Outcome, planned, badLine, outcomeOf}
+use Rattle.bench_input.specs.Input.{Reading, planned, badLine, readingOf}
 use Rattle.bench_print.specs.Print.{Printed, digitAt, decimal, labelled, badLineText, refusedText, totalsText, operationText, answerText, callText, keysText, rollText}
-use Rattle.bench_run.specs.Output.{arenaWords, recordCount, runText, scheduleText, outcomeText, outputOf}
+use Rattle.arena.specs.Init.{freshWords}
+use Rattle.bench_run.specs.Output.{arenaWords, recordCount, runText, scheduleText, readingText, outputOf}
 
 digit-short : (place n : ℕ) → length (digitAt place n) ≤ 1
 unfolding digitAt
@@ -106,13 +107,13 @@ run-short : (workers nodes : ℕ) (schedule : List ℕ) → Accepted (replicate 
     length (runText workers nodes schedule) ≤ 65536
 unfolding runText recordsOf calls
 run-short workers nodes schedule passed =
-    let r : Schedule = record { workers = workers; nodes = nodes; entries = entriesOf schedule; good = passed .counts } in
+    let r : Schedule = freshSchedule workers nodes (entriesOf schedule) (passed .counts) in
     let records : length (recordsOf workers nodes schedule) ≡ length (starts r (last r))
-    = length-map (calls workers nodes (entriesOf schedule)) recordOf ∙ length-map (starts r (last r)) _ in
+    = length-map (calls (freshWords workers nodes) (entriesOf schedule)) recordOf ∙ length-map (starts r (last r)) _ in
     simp length-append
     (omega (
       arith,
-      totals-short (totalsOf (totals workers nodes (entriesOf schedule))),
+      totals-short (totalsOf (totals (freshWords workers nodes) (entriesOf schedule))),
       texts-short callText 44 call-short (recordsOf workers nodes schedule),
       roll-short (keysOf (arena r (last r))),
       calls-fit r (last r) (omega arith),
@@ -139,9 +140,9 @@ schedule-short workers nodes schedule = go (replied refusals []) refl
 
 pub output-fits : (input : List ℕ) → length (outputOf input) ≤ 65536
 unfolding outputOf
-output-fits input = go (outcomeOf input)
+output-fits input = go (readingOf input)
   where
-    go : (o : Outcome) → length (outcomeText o) ≤ 65536
+    go : (o : Reading) → length (readingText o) ≤ 65536
     go (planned workers nodes entries) = schedule-short workers nodes (flatten entries)
     go (badLine line entries) = omega (arith, bad-line-short line)
 

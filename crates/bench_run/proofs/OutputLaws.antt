@@ -25,7 +25,7 @@ use Rattle.arena.proofs.Judged.{judged-refused, judged-accepted, given-values}
 use Rattle.lazy.specs.Turn.{turnOn, withEffect, turnedArena, turnArena}
 use Rattle.linear.specs.Entries.{Entry, isTurn, after}
 use Rattle.linear.specs.History.{arenaAt, totals, calls}
-use Rattle.linear.proofs.Timeline.{Schedule, last, arena, entry}
+use Rattle.linear.proofs.Timeline.{freshSchedule, Schedule, last, arena, entry}
 use Rattle.schedule.specs.declared.Call.{Call}
 use Rattle.schedule.specs.declared.Totals.{Totals}
 use Rattle.schedule.specs.declared.Summary.the-variants as summary
@@ -36,11 +36,12 @@ use Rattle.schedule.proofs.Running.{calls-fit}
 use Rattle.history.specs.Rows.{noCall}
 use Rattle.bench_input.specs.declared.Plan.{Plan}
 use Rattle.bench_input.specs.declared.Parsed.the-variants as parsed
-use Rattle.bench_input.specs.Input.{Outcome, planned, badLine, outcomeOf, answerOf, scheduled}
+use Rattle.bench_input.specs.Input.{Reading, planned, badLine, readingOf, parsedOf, scheduled}
 use Rattle.bench_print.specs.Print.{badLineText, refusedText, totalsText, callText, rollText}
 use Rattle.bench_input.proofs.PlanLaws.{Fits, planned-sound, planned-words}
 use Rattle.bench_run.proofs.RollLaws.{roll-fits}
-use Rattle.bench_run.specs.Output.{arenaWords, recordCount, runText, scheduleText, outcomeText, outputOf}
+use Rattle.arena.specs.Init.{freshWords}
+use Rattle.bench_run.specs.Output.{arenaWords, recordCount, runText, scheduleText, readingText, outputOf}
 
 -- no entry changes the number of the words
 judged-length : (rs : List Refusal) (before after : List ℕ) → length after ≡ length before →
@@ -76,10 +77,11 @@ after-length words x = go (isTurn x)
     go false = judged-length (startRefusals words (x .worker) (x .act) (x .key)) words
         (withWorker words (x .worker) (startedWorker (x .act) (x .key))) (rw length-sets)
 
-arena-length : (r : Schedule) (time : ℕ) → length (arena r time) ≡ total layoutNumber (r .workers) (r .nodes)
+arena-length : (r : Schedule) (time : ℕ) → length (r .initial) ≡ total layoutNumber (r .workers) (r .nodes) →
+    length (arena r time) ≡ total layoutNumber (r .workers) (r .nodes)
 unfolding arenaAt
-arena-length r zero = fresh-length (r .workers) (r .nodes) (omega (arith, counts (r .workers) (r .nodes) (r .good)))
-arena-length r (suc time) = after-length (arena r time) (entry r time) ∙ arena-length r time
+arena-length r zero fresh = fresh
+arena-length r (suc time) fresh = after-length (arena r time) (entry r time) ∙ arena-length r time fresh
 
 module _ (workers nodes : ℕ) (schedule : List ℕ) where
   abbrev lent : List ℕ
@@ -99,17 +101,17 @@ module _ (workers nodes : ℕ) (schedule : List ℕ) where
     passed = run-passed lent workers nodes schedule recordCount _ told
 
     abbrev run : Schedule
-    run = record { workers = workers; nodes = nodes; entries = entriesOf schedule; good = passed .counts }
+    run = freshSchedule workers nodes (entriesOf schedule) (passed .counts)
 
     -- where the run is accepted, its text is printed
     pub done-text : runText workers nodes schedule ≡ scheduleText workers nodes schedule
     unfolding scheduleText runAnswer
     done-text = sym (judged-accepted refusals _ refusedText (runText workers nodes schedule) told)
 
-    pub totals-are : t ≡ totalsOf (totals workers nodes (entriesOf schedule))
+    pub totals-are : t ≡ totalsOf (totals (freshWords workers nodes) (entriesOf schedule))
     unfolding runAnswer
     totals-are =
-        let all = totals workers nodes (entriesOf schedule) in
+        let all = totals (freshWords workers nodes) (entriesOf schedule) in
         let same : t .entries ∷ t .refused ∷ t .waits ∷ t .calls ∷ [] ≡ all .entries ∷ all .refused ∷ all .waits ∷ all .calls ∷ []
         = given-values refusals (all .entries ∷ all .refused ∷ all .waits ∷ all .calls ∷ []) told in
         let entries-same : t .entries ≡ all .entries = cc in
@@ -137,20 +139,20 @@ module _ (workers nodes : ℕ) (schedule : List ℕ) where
     unfolding recordsOf calls
     few-calls =
         let records : length (recordsOf workers nodes schedule) ≡ length (starts run (last run))
-        = length-map (calls workers nodes (entriesOf schedule)) recordOf ∙ length-map (starts run (last run)) _ in
+        = length-map (calls (freshWords workers nodes) (entriesOf schedule)) recordOf ∙ length-map (starts run (last run)) _ in
         omega (arith, counted, calls-fit run (last run) (omega arith), passed .calls-fit)
 
     -- and the first words are the arena
     pub arena-are : take (total layoutNumber workers nodes) (runArena lent workers nodes schedule recordCount)
-        ≡ arenaAt workers nodes (entriesOf schedule) (length (entriesOf schedule))
+        ≡ arenaAt (freshWords workers nodes) (entriesOf schedule) (length (entriesOf schedule))
     unfolding runArena runAnswer
     arena-are =
         ap (take (total layoutNumber workers nodes))
         (judged-accepted refusals _ (λ number. lent) (arena run (last run) ++ drop (total layoutNumber workers nodes) lent) told)
         ∙ take-at (arena run (last run)) (drop (total layoutNumber workers nodes) lent) (total layoutNumber workers nodes)
-        (arena-length run (last run))
+        (arena-length run (last run) (fresh-length workers nodes (omega (arith, counts workers nodes (passed .counts)))))
 
-    pub roll-room : accepted [] ≡ replied (snapshotRefusals (arenaAt workers nodes (entriesOf schedule) (length (entriesOf schedule)))
+    pub roll-room : accepted [] ≡ replied (snapshotRefusals (arenaAt (freshWords workers nodes) (entriesOf schedule) (length (entriesOf schedule)))
         1024) []
     roll-room = roll-fits run (last run)
 
@@ -166,18 +168,18 @@ module _ (workers nodes : ℕ) (schedule : List ℕ) where
 
 -- what is printed of a bad line, and of a plan
 module _ (input : List ℕ) where
-  pub bad-text : {line : ℕ} → parsed.BadLine line ≡ answerOf (outcomeOf input) → badLineText line ≡ outputOf input
+  pub bad-text : {line : ℕ} → parsed.BadLine line ≡ parsedOf (readingOf input) → badLineText line ≡ outputOf input
   unfolding outputOf
-  bad-text {line} told = go (outcomeOf input) told
+  bad-text {line} told = go (readingOf input) told
     where
-      go : (o : Outcome) → parsed.BadLine line ≡ answerOf o → badLineText line ≡ outcomeText o
+      go : (o : Reading) → parsed.BadLine line ≡ parsedOf o → badLineText line ≡ readingText o
       go (planned workers nodes entries) e = let z : _≡_ {A = ℕ} 0 1 = cc in absurd (omega arith)
       go (badLine number entries) e = let same : line ≡ number = cc in ap badLineText same
 
-  module _ (plan : Plan) (words : List ℕ) (told : parsed.Planned plan ≡ answerOf (outcomeOf input))
-      (written : words ≡ scheduled (replicate 12000 0) (outcomeOf input)) where
-    -- the plan of an outcome
-    as-planned : (o : Outcome) → parsed.Planned plan ≡ answerOf o →
+  module _ (plan : Plan) (words : List ℕ) (told : parsed.Planned plan ≡ parsedOf (readingOf input))
+      (written : words ≡ scheduled (replicate 12000 0) (readingOf input)) where
+    -- the plan of a reading
+    as-planned : (o : Reading) → parsed.Planned plan ≡ parsedOf o →
         (entries : List (List ℕ)) × (o ≡ planned (plan .workers) (plan .nodes) entries) × (plan .entries ≡ length entries)
     as-planned (planned workers nodes entries) e =
         let same : plan ≡ record { workers = workers; nodes = nodes; entries = length entries } = cc in
@@ -186,17 +188,17 @@ module _ (input : List ℕ) where
 
     pub plan-fits : 3 * plan .entries ≤ 12000
     plan-fits =
-        let is = as-planned (outcomeOf input) told in
+        let is = as-planned (readingOf input) told in
         omega (arith, is .2, planned-sound input (plan .workers) (plan .nodes) (is .0) (is .1) .1 .few)
 
     pub plan-text : scheduleText (plan .workers) (plan .nodes) (take (3 * plan .entries) words) ≡ outputOf input
     unfolding outputOf
     plan-text =
-        let is = as-planned (outcomeOf input) told in
+        let is = as-planned (readingOf input) told in
         ap (scheduleText (plan .workers) (plan .nodes))
         (ap (λ n. take (3 * n) words) (is .2) ∙ ap (take (3 * length (is .0))) written
         ∙ planned-words input (plan .workers) (plan .nodes) (is .0) (is .1) (replicate 12000 0) (rw length-replicate (omega arith)))
-        ∙ sym (ap outcomeText (is .1))
+        ∙ sym (ap readingText (is .1))
 
 -- of a plan the counts and the length of the schedule are good, and the arena's words are enough: only the row may be too short
 good-plan : (entries : List (List ℕ)) → Fits entries → isBadSchedule (flatten entries) ≡ false
@@ -212,7 +214,7 @@ wide-enough workers nodes good =
     le-ltb (length {A = ℕ} (replicate arenaWords 0)) (total layoutNumber workers nodes)
     (omega (arith, counts workers nodes good, length-replicate {A = ℕ} arenaWords 0))
 
-pub only-no-room : (input : List ℕ) (workers nodes : ℕ) (entries : List (List ℕ)) → outcomeOf input ≡ planned workers nodes entries →
+pub only-no-room : (input : List ℕ) (workers nodes : ℕ) (entries : List (List ℕ)) → readingOf input ≡ planned workers nodes entries →
     {number : ℕ} → refused number ≡ replied (runRefusals (replicate arenaWords 0) workers nodes (flatten entries) recordCount) [] →
     number ≡ noRoom
 unfolding runRefusals

@@ -14,7 +14,7 @@ use Rattle.arena.specs.Snapshot.{chainBroken, chainTooLong, chainRefusals, keys
 use Rattle.arena.proofs.Bounds.{counts}
 use Rattle.arena.proofs.Judged.{judged-accepted}
 use Rattle.arena.proofs.ShortChains.{keys-few}
-use Rattle.linear.proofs.SetLaws.{ChainWhole}
+use Rattle.linear.specs.Sets.{ChainWhole}
 use Rattle.linear.proofs.Members.{whole}
 use Rattle.linear.proofs.Timeline.{Schedule, arena, sound, always}
 

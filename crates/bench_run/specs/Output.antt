@@ -6,7 +6,8 @@ use Rattle.worker.specs.Refusals.{judged}
 use Rattle.arena.specs.Snapshot.{keysOf}
 use Rattle.linear.specs.History.{arenaAt, totals}
 use Rattle.schedule.specs.Run.{entriesOf, runRefusals, recordsOf, totalsOf}
-use Rattle.bench_input.specs.Input.{Outcome, planned, badLine, outcomeOf}
+use Rattle.bench_input.specs.Input.{Reading, planned, badLine, readingOf}
+use Rattle.arena.specs.Init.{freshWords}
 use Rattle.bench_print.specs.Print.{badLineText, refusedText, totalsText, callText, rollText}
 
 -- its row holds 1,000 records
@@ -21,9 +22,9 @@ arenaWords = 4168
 unfoldable pub runText : ℕ → ℕ → List ℕ → List ℕ
 runText workers nodes schedule =
     let entries = entriesOf schedule in
-    totalsText (totalsOf (totals workers nodes entries))
+    totalsText (totalsOf (totals (freshWords workers nodes) entries))
     ++ flatten (map callText (recordsOf workers nodes schedule))
-    ++ rollText (keysOf (arenaAt workers nodes entries (length entries)))
+    ++ rollText (keysOf (arenaAt (freshWords workers nodes) entries (length entries)))
 
 -- a refused run prints its number alone, and that is 8 (`OutputLaws.only-no-room`)
 unfoldable pub scheduleText : ℕ → ℕ → List ℕ → List ℕ
@@ -31,9 +32,9 @@ scheduleText workers nodes schedule =
     judged (runRefusals (replicate arenaWords 0) workers nodes schedule recordCount) refusedText (runText workers nodes schedule)
 
 -- `bad line L` and nothing else for a bad line
-abbrev pub outcomeText : Outcome → List ℕ
-outcomeText (planned workers nodes entries) = scheduleText workers nodes (flatten entries)
-outcomeText (badLine line entries) = badLineText line
+abbrev pub readingText : Reading → List ℕ
+readingText (planned workers nodes entries) = scheduleText workers nodes (flatten entries)
+readingText (badLine line entries) = badLineText line
 
 unfoldable pub outputOf : List ℕ → List ℕ
-outputOf input = outcomeText (outcomeOf input)
+outputOf input = readingText (readingOf input)

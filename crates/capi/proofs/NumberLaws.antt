@@ -22,7 +22,7 @@ use Rattle.worker.specs.declared.report.Turned.the-variants as turned
 use Rattle.arena.specs.Records.{workerAt}
 use Rattle.arena.specs.Replies.{Reply, refused, accepted, replied}
 use Rattle.arena.specs.Header.{headerRefusals}
-use Rattle.arena.specs.Init.{initRefusals, initAnswer}
+use Rattle.arena.specs.Init.{freshWords, initRefusals, initAnswer}
 use Rattle.arena.specs.Start.{callRefusals, startRefusals, startAnswer}
 use Rattle.arena.specs.Snapshot.{chainBroken, chainTooLong, chainRefusals, snapshotRefusals, snapshotAnswer}
 use Rattle.lazy.specs.Turn.{outcomeReply, outcomeOf, seenBy, workerRefusals, turnOn, turnAnswer}
@@ -30,7 +30,7 @@ use Rattle.schedule.specs.Run.{entriesOf, runRefusals, runAnswer, summaryReply,
 use Rattle.schedule.specs.declared.Summary.{Summary}
 use Rattle.schedule.specs.declared.Summary.the-variants as summary
 use Rattle.linear.specs.Linearizable.{Linearizable}
-use Rattle.capi.specs.Number.{replyNumber, refusalIn, reportIn, valueIn, countIn, bare}
+use Rattle.capi.specs.Number.{replyNumber, refusalIn, reportIn, valueIn, countIn, Readable, bare}
 
 -- the report of a turn, and the stage or the answer with it
 pub report-read : (r : Report) →
@@ -53,17 +53,12 @@ abbrev areNumbered : List Refusal → Bool
 areNumbered [] = true
 areNumbered (refusal ∷ refusals) = isNumbered refusal && areNumbered refusals
 
--- the refusal is read from the number; 0 stands for none, and is no refusal's
-abbrev pub Tells : Reply → Type 0
-Tells (refused number) = (1 ≤ number) × (number ≤ 255) × (refusalIn (replyNumber (refused number)) ≡ number)
-Tells (accepted values) = refusalIn (replyNumber (accepted values)) ≡ 0
-
-refused-tells : (number : ℕ) → within 1 255 number ≡ true → Tells (refused number)
-refused-tells number inside =
+refused-readable : (number : ℕ) → within 1 255 number ≡ true → Readable (refused number)
+refused-readable number inside =
     let bounds = range-bounds 1 255 number inside in (bounds .0, bounds .1, omega arith)
 
-accepted-tells : (values : List ℕ) → Tells (accepted values)
-accepted-tells values = omega arith
+accepted-readable : (values : List ℕ) → Readable (accepted values)
+accepted-readable values = omega arith
 
 judged-numbered : {A : Type 0} (P : A → Type 0) (rs : List Refusal) (refuse : ℕ → A) (accept : A) → areNumbered rs ≡ true →
     ((number : ℕ) → within 1 255 number ≡ true → P (refuse number)) → P accept → P (judged rs refuse accept)
@@ -78,51 +73,51 @@ judged-numbered {A} P (r ∷ rs) refuse accept all p q =
     go true others more = p (r .1) (both .0)
     go false others more = more
 
-replied-tells : (rs : List Refusal) (values : List ℕ) → areNumbered rs ≡ true → Tells (replied rs values)
-replied-tells rs values all = judged-numbered Tells rs refused (accepted values) all refused-tells (accepted-tells values)
+replied-readable : (rs : List Refusal) (values : List ℕ) → areNumbered rs ≡ true → Readable (replied rs values)
+replied-readable rs values all = judged-numbered Readable rs refused (accepted values) all refused-readable (accepted-readable values)
 
-abbrev TurnedTells : Turned → Type 0
-TurnedTells t = Tells (outcomeReply (outcomeOf t))
+abbrev TurnedReadable : Turned → Type 0
+TurnedReadable t = Readable (outcomeReply (outcomeOf t))
 
-worker-tells : (w : Worker) (owner : ℕ) (seen : Seen) → TurnedTells (turnOf w owner seen)
+worker-readable : (w : Worker) (owner : ℕ) (seen : Seen) → TurnedReadable (turnOf w owner seen)
 unfolding turnOf turnRefusals busyRefusals
-worker-tells w owner seen = go (eqb (w .stage) idleStage)
+worker-readable w owner seen = go (eqb (w .stage) idleStage)
   where
     step : Step
     step = stepOf w owner seen
 
-    done : TurnedTells (turned.Done step)
-    done = accepted-tells (reportValues (step .report))
+    done : TurnedReadable (turned.Done step)
+    done = accepted-readable (reportValues (step .report))
 
-    go : (idle : Bool) → TurnedTells (judged (cond idle [] (busyRefusals w seen)) turned.Refused (turned.Done step))
+    go : (idle : Bool) → TurnedReadable (judged (cond idle [] (busyRefusals w seen)) turned.Refused (turned.Done step))
     go true = done
-    go false = judged-numbered TurnedTells (busyRefusals w seen) turned.Refused (turned.Done step) refl refused-tells done
+    go false = judged-numbered TurnedReadable (busyRefusals w seen) turned.Refused (turned.Done step) refl refused-readable done
 
 module _ (arena : List ℕ) where
-  pub init-tells : (workers nodes : ℕ) → Tells (initAnswer arena workers nodes)
+  pub init-readable : (workers nodes : ℕ) → Readable (initAnswer arena workers nodes)
   unfolding initAnswer initRefusals
-  init-tells workers nodes = replied-tells (initRefusals arena workers nodes) [] refl
+  init-readable workers nodes = replied-readable (initRefusals arena workers nodes) [] refl
 
-  pub start-tells : (worker operation key : ℕ) → Tells (startAnswer arena worker operation key)
+  pub start-readable : (worker operation key : ℕ) → Readable (startAnswer arena worker operation key)
   unfolding startAnswer startRefusals callRefusals headerRefusals
-  start-tells worker operation key = replied-tells (startRefusals arena worker operation key) [] refl
+  start-readable worker operation key = replied-readable (startRefusals arena worker operation key) [] refl
 
-  pub snapshot-tells : (room : ℕ) → Tells (snapshotAnswer arena room)
+  pub snapshot-readable : (room : ℕ) → Readable (snapshotAnswer arena room)
   unfolding snapshotAnswer snapshotRefusals chainRefusals chainBroken chainTooLong headerRefusals
-  snapshot-tells room = replied-tells (snapshotRefusals arena room) _ refl
+  snapshot-readable room = replied-readable (snapshotRefusals arena room) _ refl
 
-  pub run-tells : (workers nodes : ℕ) (schedule : List ℕ) (room : ℕ) → Tells (runAnswer arena workers nodes schedule room)
+  pub run-readable : (workers nodes : ℕ) (schedule : List ℕ) (room : ℕ) → Readable (runAnswer arena workers nodes schedule room)
   unfolding runAnswer runRefusals
-  run-tells workers nodes schedule room = replied-tells (runRefusals arena workers nodes schedule room) _ refl
+  run-readable workers nodes schedule room = replied-readable (runRefusals arena workers nodes schedule room) _ refl
 
-  pub turn-tells : (worker : ℕ) → Tells (turnAnswer arena worker)
+  pub turn-readable : (worker : ℕ) → Readable (turnAnswer arena worker)
   unfolding turnAnswer turnOn workerRefusals headerRefusals
-  turn-tells worker =
-      judged-numbered TurnedTells (workerRefusals arena worker) turned.Refused _ refl refused-tells
-      (worker-tells (workerAt arena worker) (suc worker) (seenBy arena (workerAt arena worker)))
+  turn-readable worker =
+      judged-numbered TurnedReadable (workerRefusals arena worker) turned.Refused _ refl refused-readable
+      (worker-readable (workerAt arena worker) (suc worker) (seenBy arena (workerAt arena worker)))
 
 -- a run that returns 0 is done
-pub zero-done : (s : Summary) (workers nodes : ℕ) (schedule : List ℕ) → Tells (summaryReply s) → replyNumber (bare (summaryReply s)) ≡ 0 →
-    DoneLinearizable s workers nodes schedule → Linearizable workers nodes (entriesOf schedule)
+pub zero-done : (s : Summary) (workers nodes : ℕ) (schedule : List ℕ) → Readable (summaryReply s) → replyNumber (bare (summaryReply s)) ≡ 0 →
+    DoneLinearizable s workers nodes schedule → Linearizable (freshWords workers nodes) (entriesOf schedule)
 zero-done (summary.Done totals) workers nodes schedule tells zero holds = holds
 zero-done (summary.Refused number) workers nodes schedule tells zero holds = absurd (omega arith)

@@ -1,5 +1,6 @@
 -- The one number that a function of the C interface returns, and how a C program reads it.
-use Prim.Native.Nat.{ℕ, _+_, _*_, _/_, _%_}
+use Prim.Native.Nat.{ℕ, _+_, _*_, _/_, _%_, _≤_}
+use mathlib.Core.Path.{_≡_}
 use mathlib.Core.List.{List, [], _∷_}
 use Rattle.arena.specs.Replies.{Reply, refused, accepted}
 
@@ -25,6 +26,11 @@ valueIn number = number / 65536
 
 abbrev pub countIn : ℕ → ℕ
 countIn number = number / 256
+
+-- the refusal is read back; 0 stands for none, and is no refusal's (`NumberLaws`, for each function)
+abbrev pub Readable : Reply → Type 0
+Readable (refused number) = (1 ≤ number) × (number ≤ 255) × (refusalIn (replyNumber (refused number)) ≡ number)
+Readable (accepted values) = refusalIn (replyNumber (accepted values)) ≡ 0
 
 -- a run's four totals are written to lent words, and its number is that of a reply without them
 abbrev pub bare : Reply → Reply

@@ -2,7 +2,7 @@
 ghost use mathlib.Core.Path.{_≡_};
 ghost use Prim.Native.Nat.{_/_};
 ghost use lib.ListN.{length};
-ghost use Rattle.arena.specs.Init.{initAnswer, initArena};
+ghost use Rattle.arena.specs.Init.{freshWords, initAnswer, initArena};
 ghost use Rattle.arena.specs.Start.{startAnswer, startArena};
 ghost use Rattle.arena.specs.Snapshot.{snapshotAnswer, snapshotWords};
 ghost use Rattle.lazy.specs.Turn.{turnAnswer, turnArena};
@@ -67,7 +67,7 @@ pub extern "C" fn lazy_list_run(
         ≡ runWords (now (arena .entry)) workers nodes (now (schedule .entry)) (now (history .entry)) ⌝ }
     ensures totals { λ _. ⌜ now (totals .exit) ≡ valuesOr (now (totals .entry))
         (runAnswer (now (arena .entry)) workers nodes (now (schedule .entry)) (length (now (history .entry)) / callWidth)) ⌝ }
-    ensures linearizable { λ r. ⌜ (r ≡ 0 → Linearizable workers nodes (entriesOf (now (schedule .entry)))) ⌝ }
+    ensures linearizable { λ r. ⌜ (r ≡ 0 → Linearizable (freshWords workers nodes) (entriesOf (now (schedule .entry)))) ⌝ }
 {
     let summary = schedule::run(arena, workers, nodes, schedule, history);
     write_totals(totals, summary);

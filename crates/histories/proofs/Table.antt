@@ -1,4 +1,4 @@
--- Every row of the table holds, by computation.
+-- Every row of the table holds, by computation, and its arena is fresh.
 use mathlib.Core.Path.{_≡_, refl}
 use mathlib.Core.List.{map, flatten}
 use Rattle.worker.specs.Stages.{stepOf}
@@ -14,11 +14,16 @@ use Rattle.lazy.specs.Turn.{seenOf, seenBy, workerRefusals, turnOn, withEffect,
 use Rattle.linear.specs.Lists.{filter, member, timesFrom, first}
 use Rattle.linear.specs.Sets.{chainOf, setOf}
 use Rattle.linear.specs.Entries.{eventOf, after}
-use Rattle.linear.specs.History.{decides, entryAt, arenaAt, eventAt, finishesAt, decidesAt, absentAt, finishOf, decisionOf, answerOf, pointOf, callAt, calls, totals}
+use Rattle.linear.specs.History.{isDecision, entryAt, arenaAt, eventAt, finishesAt, decidesAt, absentAt, finishOf, decisionOf, answerOf, pointOf, callAt, calls, totals}
 use Rattle.linear.specs.Order.{goesBefore, inserted, sorted, inOrder}
-use Rattle.linear.specs.Sequential.{including, excluding, replyTo, keysAfter}
-use Rattle.histories.specs.Histories.{found, stated, histories}
+use Rattle.linear.specs.Sequential.{including, excluding, responseTo, keysAfter}
+use Rattle.histories.specs.Histories.{found, stated, forTwo, forOne, histories}
 
 pub histories-hold : map found histories ≡ map stated histories
-unfolding flatten nodeWidth headerWords nodePart nodeFrom workerAt withWorker nodeAt isHeader headerRefusals freshWorkers freshNodes freshWords callRefusals startRefusals startArena walk chain stepOf belongs kept placed astray busyRefusals turnRefusals turnOf rootsOf leads reached lowestFrom lowestFree seenOf seenBy workerRefusals turnOn withEffect turnArena filter member timesFrom first chainOf setOf eventOf after decides entryAt arenaAt eventAt finishesAt decidesAt absentAt finishOf decisionOf answerOf pointOf callAt calls totals goesBefore inserted sorted inOrder including excluding replyTo keysAfter
+unfolding nodeWidth headerWords nodePart nodeFrom workerAt withWorker nodeAt isHeader headerRefusals callRefusals startRefusals startArena walk chain stepOf belongs kept placed astray busyRefusals turnRefusals turnOf rootsOf leads reached lowestFrom lowestFree seenOf seenBy workerRefusals turnOn withEffect turnArena filter member timesFrom first chainOf setOf eventOf after isDecision entryAt arenaAt eventAt finishesAt decidesAt absentAt finishOf decisionOf answerOf pointOf callAt calls totals goesBefore inserted sorted inOrder including excluding responseTo keysAfter
 histories-hold = refl
+
+-- the arenas are fresh
+pub fresh-arenas : (freshWords 2 3 ≡ forTwo) × (freshWords 1 3 ≡ forOne)
+unfolding flatten nodeWidth headerWords freshWorkers freshNodes freshWords
+fresh-arenas = (refl, refl)

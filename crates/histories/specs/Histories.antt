@@ -1,4 +1,4 @@
--- One table of histories: a row has W, N and entries, and says what calls they come to, the totals, and the set at the end.
+-- One table of histories: a row has an arena and entries, and says what calls they come to, the totals, and the set at the end.
 use Prim.Native.Nat.{ℕ}
 use mathlib.Core.List.{List, [], _∷_, _++_, map}
 use lib.ListN.{length, replicate}
@@ -37,20 +37,43 @@ pub record Told : Type 0 where
   pub sequential : List ℕ
 
 pub data History : Type 0 where
-  row : ℕ → ℕ → List Entry → Told → History
+  row : List ℕ → List Entry → Told → History
 
 abbrev pub found : History → Told
-found (row workers nodes entries told) =
+found (row initial entries told) =
     record {
-      calls = calls workers nodes entries;
-      totals = totals workers nodes entries;
-      order = map (λ (call : Call). call .start) (inOrder workers nodes entries);
-      keys = setOf (arenaAt workers nodes entries (length entries));
-      sequential = keysAfter [] (inOrder workers nodes entries);
+      calls = calls initial entries;
+      totals = totals initial entries;
+      order = map (λ (call : Call). call .start) (inOrder initial entries);
+      keys = setOf (arenaAt initial entries (length entries));
+      sequential = keysAfter [] (inOrder initial entries);
     }
 
 abbrev pub stated : History → Told
-stated (row workers nodes entries told) = told
+stated (row initial entries told) = told
+
+-- fresh arenas of 2 workers and of 1, with 3 nodes, written out (`Table.fresh-arenas`)
+abbrev pub forTwo : List ℕ
+forTwo =
+    -- header
+    1 ∷ 2 ∷ 3 ∷ 8 ∷ 24 ∷ 36 ∷ 0 ∷ 0
+    -- idle workers
+    ∷ 0 ∷ 0 ∷ 0 ∷ 65535 ∷ 65535 ∷ 65535 ∷ 0 ∷ 0
+    ∷ 0 ∷ 0 ∷ 0 ∷ 65535 ∷ 65535 ∷ 65535 ∷ 0 ∷ 0
+    -- Head, Tail, and an unused node
+    ∷ 0 ∷ 1 ∷ 0 ∷ 0
+    ∷ 65535 ∷ 1 ∷ 0 ∷ 0
+    ∷ 0 ∷ 0 ∷ 0 ∷ 0
+    ∷ []
+
+abbrev pub forOne : List ℕ
+forOne =
+    1 ∷ 1 ∷ 3 ∷ 8 ∷ 16 ∷ 28 ∷ 0 ∷ 0
+    ∷ 0 ∷ 0 ∷ 0 ∷ 65535 ∷ 65535 ∷ 65535 ∷ 0 ∷ 0
+    ∷ 0 ∷ 1 ∷ 0 ∷ 0
+    ∷ 65535 ∷ 1 ∷ 0 ∷ 0
+    ∷ 0 ∷ 0 ∷ 0 ∷ 0
+    ∷ []
 
 -- document 01's bench listing, whole
 abbrev pub listing : List Entry
@@ -93,7 +116,7 @@ mixed =
 
 abbrev pub histories : List History
 histories =
-    row 2 3 listing
+    row forTwo listing
     (record {
       calls =
           call 0 add 5 1 12 15 (answerNumber Yes)
@@ -107,7 +130,7 @@ histories =
       keys = 7 ∷ [];
       sequential = 7 ∷ [];
     })
-    ∷ row 2 3 overtaken
+    ∷ row forTwo overtaken
     (record {
       calls = call 1 contains 7 1 1 21 (answerNumber No) ∷ call 0 add 7 5 16 19 (answerNumber Yes) ∷ [];
       totals = total 21 0 0 2;
@@ -115,7 +138,7 @@ histories =
       keys = 7 ∷ [];
       sequential = 7 ∷ [];
     })
-    ∷ row 1 3 crowded
+    ∷ row forOne crowded
     (record {
       calls = call 0 add 5 1 12 15 (answerNumber Yes) ∷ call 0 add 6 16 29 32 (answerNumber Full) ∷ [];
       totals = total 32 0 0 2;
@@ -123,7 +146,7 @@ histories =
       keys = 5 ∷ [];
       sequential = 5 ∷ [];
     })
-    ∷ row 2 3 mixed
+    ∷ row forTwo mixed
     (record {
       calls = call 0 add 5 1 21 0 (answerNumber Yes) ∷ call 1 remove 7 10 0 0 0 ∷ [];
       totals = total 25 5 1 2;

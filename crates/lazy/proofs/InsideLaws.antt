@@ -1,7 +1,7 @@
 -- What no turn writes to: the header, the other workers' records, and the words past the total.
 use Prim.Native.Nat.{ℕ, suc, _<_, _≤_}
 use mathlib.Core.Path.{_≡_, refl}
-use mathlib.Core.Logic.{_⊎_, inl, inr}
+use mathlib.Core.Logic.{inl, inr}
 use mathlib.Core.List.{List}
 use mathlib.Core.Bool.{Bool, true, false, cond}
 use native.Mathlib.Omega.{arith}
@@ -14,14 +14,14 @@ use Rattle.worker.specs.declared.report.Effect.the-variants as effect
 use Rattle.worker.specs.declared.report.Turned.{Turned}
 use Rattle.worker.specs.declared.report.Turned.the-variants as turned
 use Rattle.worker.proofs.EffectLaws.{EffectBelow, FreeBelow, done-below}
-use Rattle.arena.specs.Layout.{word, layoutNumber, layoutOf, workersOf, nodesOf, nodesFrom, nodesFromOf, totalOf, nodeWidth, nodeFrom, nodeNext, nodeMark, nodeOwner}
-use Rattle.arena.specs.Records.{workerAt}
+use Rattle.arena.specs.Layout.{word, layoutNumber, layoutOf, workersOf, nodesOf, nodesFromOf, totalOf, nodeWidth, nodeFrom, nodeNext, nodeMark, nodeOwner}
+use Rattle.arena.specs.Records.{workerAt, Outside}
 use Rattle.arena.proofs.HeaderLaws.{Header}
 use Rattle.arena.proofs.Slots.{slot-within}
-use Rattle.arena.proofs.RecordLaws.{Outside}
 use Rattle.lazy.specs.Turn.{seenOf, seenBy, turnOn, turnArena}
+use Rattle.lazy.specs.Claims.{nextIn, rootsIn, Touches, Elsewhere}
 use Rattle.lazy.proofs.FreeLaws.{lowest-found}
-use Rattle.lazy.proofs.TurnLaws.{Touches, turn-leaves, turn-accepted, nextIn, rootsIn, lowestFreeIn}
+use Rattle.lazy.proofs.TurnLaws.{turn-leaves, turn-accepted, lowestFreeIn}
 
 -- the node of a turn's effect is below N
 pub effect-below : (arena : List ℕ) (worker : ℕ) {step : Step} → turnOn arena worker ≡ turned.Done step → EffectBelow (nodesOf arena) (step .effect)
@@ -32,7 +32,7 @@ effect-below arena worker e =
   where
     go : (t : Bool) (found : Free) → lowestFreeIn arena ≡ found → FreeBelow (nodesOf arena) (cond t found free.None)
     go true free.None same = tt
-    go true (free.Node node) same = lowest-found (nextIn arena) (nodesOf arena) (rootsIn arena) same .0
+    go true (free.Node node) same = lowest-found (nextIn arena) (nodesOf arena) (rootsIn arena) same .0 .below
     go false found same = tt
 
 -- the last field has room in every layout there is
@@ -48,10 +48,6 @@ field-inside arena node field header below fits =
     let wide = fields-fit (layoutOf arena) (header .layout) in
     let inside = slot-within (nodeWidth (layoutOf arena)) node (nodesOf arena) field below (omega arith) in
     (omega arith, omega (arith, header .from, header .end))
-
--- a place in the header, in another worker's record, or past the total
-abbrev pub Elsewhere : List ℕ → ℕ → ℕ → Type 0
-Elsewhere arena worker at = ((at < nodesFrom (workersOf arena)) × Outside worker at) ⊎ (totalOf arena ≤ at)
 
 module _ (arena : List ℕ) (worker at : ℕ) where
   outside : worker < workersOf arena → Header arena → Elsewhere arena worker at → Outside worker at

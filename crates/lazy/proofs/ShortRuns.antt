@@ -21,10 +21,9 @@ module _ (next : ℕ → ℕ) (count : ℕ) where
     last : {node : ℕ} → node < count → holds row node ≡ false → Avoids row node node
     link : {from node : ℕ} → from < count → holds row from ≡ false → Avoids row (next from) node → Avoids row from node
 
-  pub avoids-none : {from node : ℕ} (size : ℕ) → Run next count from node → node < count →
-      Avoids (replicate size false) from node
-  avoids-none {node} size here h = last h (holds-none size node)
-  avoids-none {from} size (on k run) h = link k (holds-none size from) (avoids-none size run h)
+  pub avoids-none : {from node : ℕ} (size : ℕ) → Run next count from node → Avoids (replicate size false) from node
+  avoids-none {node} size (here h) = last h (holds-none size node)
+  avoids-none {from} size (on k run) = link k (holds-none size from) (avoids-none size run)
 
   begins : {row : List Bool} {from node : ℕ} → Avoids row from node → (from < count) × (holds row from ≡ false)
   begins (last h e) = (h, e)

@@ -3,20 +3,21 @@ use Prim.Native.Nat.{ℕ, suc, _<_, _≤_}
 use mathlib.Core.Path.{_≡_, refl, sym, ap, _∙_}
 use mathlib.Core.Logic.{_⊎_, inl, inr}
 use mathlib.Core.List.{List, [], _∷_}
-use mathlib.Core.Bool.{cond}
+use mathlib.Core.Bool.{true, cond}
 use native.Mathlib.Omega.{arith}
 use lib.Seq.{getD-set-other}
 use lib.Dec.{leb, eqb}
 use borrow.Author.Tests.{leb-false}
 use Rattle.worker.specs.Node.{newNode}
 use Rattle.worker.specs.Refusals.{Refusal, judged, noSuchWorker}
-use Rattle.worker.specs.Report.{answerNumber, reportValues}
+use Rattle.worker.specs.Report.{answerNumber, reportValues, isStill}
 use Rattle.worker.specs.Stages.{takes, stepOf}
 use Rattle.worker.specs.Turn.{turnOf}
 use Rattle.worker.specs.declared.Worker.{Worker}
 use Rattle.worker.specs.declared.report.Answer.the-variants as answer
 use Rattle.worker.specs.declared.report.Free.{Free}
 use Rattle.worker.specs.declared.report.Free.the-variants as free
+use Rattle.worker.specs.declared.report.Report.{Report}
 use Rattle.worker.specs.declared.report.Step.{Step}
 use Rattle.worker.specs.declared.report.Effect.{Effect}
 use Rattle.worker.specs.declared.report.Effect.the-variants as effect
@@ -25,17 +26,19 @@ use Rattle.worker.specs.declared.report.Turned.the-variants as turned
 use Rattle.worker.proofs.RefusalLaws.{judged-append, none-accepts}
 use Rattle.worker.proofs.ReportLaws.{report-told}
 use Rattle.worker.proofs.TurnLaws.{judged-done, done-step, step-row}
+use Rattle.worker.proofs.StillLaws.{still-step}
 use Rattle.arena.specs.Layout.{word, layoutOf, workersOf, nodesOf, nodeWidth, nodePart, nodeFrom, nodeKey, nodeNext, nodeMark, nodeOwner}
-use Rattle.arena.specs.Records.{workerAt, nodeWords, nextAt}
+use Rattle.arena.specs.Records.{workerAt, nodeWords, Outside}
 use Rattle.arena.specs.Replies.{refused, accepted}
 use Rattle.arena.specs.Header.{headerRefusals}
 use Rattle.arena.proofs.HeaderLaws.{Header, header-holds}
 use Rattle.arena.proofs.Runs.{sets-outside}
-use Rattle.arena.proofs.RecordLaws.{Outside, others-stay}
-use Rattle.lazy.specs.Free.{rootsOf, Reached, lowestFree}
+use Rattle.arena.proofs.RecordLaws.{others-stay, rewritten}
+use Rattle.lazy.specs.Free.{lowestFree}
 use Rattle.lazy.specs.declared.Outcome.{Outcome}
 use Rattle.lazy.specs.declared.Outcome.the-variants as outcome
 use Rattle.lazy.specs.Turn.{seenOf, seenBy, workerRefusals, turnOn, outcomeReply, outcomeOf, withEffect, turnedArena, turnAnswer, turnArena}
+use Rattle.lazy.specs.Claims.{nextIn, rootsIn, Takes, IsFull, Touches}
 use Rattle.lazy.proofs.FreeLaws.{lowest-found, lowest-none}
 
 -- the reply tells the outcome, so a turn answers just what it comes to
@@ -60,14 +63,7 @@ refused-stays arena worker {number} e = go (turnOn arena worker) e
     go (turned.Done step) e = let z : _≡_ {A = ℕ} 0 1 = cc in absurd (omega arith)
     go (turned.Refused n) e = refl
 
--- a place that an effect writes: a field of its node, or all of them
-abbrev pub Touches : List ℕ → Effect → ℕ → Type 0
-Touches arena effect.Nothing at = ⊥
-Touches arena (effect.SetOwner node owner) at = at ≡ nodeFrom arena node nodeOwner
-Touches arena (effect.SetNext node next) at = at ≡ nodeFrom arena node nodeNext
-Touches arena (effect.SetMark node) at = at ≡ nodeFrom arena node nodeMark
-Touches arena (effect.Fill node key next) at = (field : ℕ) × (field ≤ nodeOwner) × (at ≡ nodeFrom arena node field)
-
+-- an effect leaves every word but those it writes
 effect-leaves : (arena : List ℕ) (e : Effect) (at : ℕ) → (Touches arena e at → ⊥) → word (withEffect arena e) at ≡ word arena at
 unfolding withEffect nodeFrom
 effect-leaves arena effect.Nothing at out = refl
@@ -110,35 +106,27 @@ pub turn-steps : (arena : List ℕ) (worker : ℕ) {step : Step} → turnOn aren
 turn-steps arena worker e =
     done-step (workerAt arena worker) (suc worker) (seenBy arena (workerAt arena worker)) (turn-accepted arena worker e .done)
 
--- the links and the roots of an arena
-abbrev pub nextIn : List ℕ → ℕ → ℕ
-nextIn arena = nextAt (nodeWidth (layoutOf arena)) (nodePart arena)
+-- a turn that is idle or waits changes no word
+pub still-stays : (arena : List ℕ) (worker : ℕ) (report : Report) → isStill report ≡ true →
+    turnAnswer arena worker ≡ accepted (reportValues report) → turnArena arena worker ≡ arena
+unfolding turnArena withEffect
+still-stays arena worker report still e =
+    go (turnOn arena worker) refl (answer-told arena worker {told = outcome.Reported report} (sym e))
+  where
+    w : Worker
+    w = workerAt arena worker
 
-abbrev pub rootsIn : List ℕ → List ℕ
-rootsIn arena = rootsOf (workerAt arena) (workersOf arena)
+    go : (t : Turned) → turnOn arena worker ≡ t → outcome.Reported report ≡ outcomeOf t → turnedArena arena worker t ≡ arena
+    go (turned.Refused number) is told = refl
+    go (turned.Done step) is told =
+        let same : report ≡ step .report = cc in
+        let does = turn-steps arena worker is in
+        let stays = still-step w (suc worker) (seenBy arena w) (ap (λ (t : Step). isStill (t .report)) (sym does) ∙ ap isStill (sym same) ∙ still) in
+        ap (λ (t : Step). turnedArena arena worker (turned.Done t)) (does ∙ stays) ∙ rewritten arena worker
 
--- document 01: some run of next links leads to the node from node 0, node 1, or a pred, curr or spare
-abbrev pub ReachedIn : List ℕ → ℕ → Type 0
-ReachedIn arena = Reached (nextIn arena) (nodesOf arena) (rootsIn arena)
-
--- the lowest-numbered node to which none does
+-- what the search finds in an arena
 abbrev pub lowestFreeIn : List ℕ → Free
 lowestFreeIn arena = lowestFree (nextIn arena) (nodesOf arena) (rootsIn arena)
-
-module _ (arena : List ℕ) (w : Worker) (step : Step) where
-  -- the turn takes the lowest-numbered free node
-  pub record Takes : Type 0 where
-    pub node : ℕ
-    pub effect : step .effect ≡ effect.Fill node (w .key) (w .curr)
-    pub below : node < nodesOf arena
-    pub free : ReachedIn arena node → ⊥
-    pub lowest : (lower : ℕ) → lower < node → ReachedIn arena lower
-
-  -- the turn answers full, and no node is free
-  pub record IsFull : Type 0 where
-    pub effect : step .effect ≡ effect.Nothing
-    pub answer : step .worker .answer ≡ answerNumber answer.Full
-    pub none : (node : ℕ) → node < nodesOf arena → ReachedIn arena node
 
 -- at 14 a free node is taken where there is one, and full is answered only where there is none
 pub takes-free : (arena : List ℕ) (worker : ℕ) {step : Step} → turnOn arena worker ≡ turned.Done step →
@@ -166,7 +154,6 @@ takes-free arena worker {step} e s =
         inl (record {
           node = node;
           effect = ap (λ (t : Step). t .effect) same;
-          below = found .0;
-          free = found .1;
-          lowest = found .2;
+          free = found .0;
+          lowest = found .1;
         })

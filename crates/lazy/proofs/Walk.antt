@@ -19,22 +19,22 @@ same-test false true f g = g refl
 same-test false false f g = refl
 
 module _ {next : ℕ → ℕ} {count : ℕ} where
-  one-more : {root node : ℕ} → Run next count root node → node < count → Run next count root (next node)
-  one-more here h = on h here
+  one-more : {root node : ℕ} → Run next count root node → next node < count → Run next count root (next node)
+  one-more (here k) h = on k (here h)
   one-more (on k run) h = on k (one-more run h)
 
   -- a closed row that holds a root holds what a run from it leads to
   run-held : {row : List Bool} {root node : ℕ} → Closed next count row → (root < count → holds row root ≡ true) →
-      Run next count root node → node < count → holds row node ≡ true
-  run-held closed start here h = start h
-  run-held {root} closed start (on k run) h = run-held closed (closed .follows root k (start k)) run h
+      Run next count root node → holds row node ≡ true
+  run-held closed start (here k) = start k
+  run-held {root} closed start (on k run) = run-held closed (closed .follows root k (start k)) run
 
 -- A walk from a root, now at a node: the row holds what it held before and nodes that the root leads to. It holds the root, and
 -- with each node the one that follows it; only the node that the walk is at may still be missing.
 pub record Walking (next : ℕ → ℕ) (count root : ℕ) (before row : List Bool) (at : ℕ) : Type 0 where
   pub long : length row ≡ length before
   pub room : count ≤ length row
-  pub run : Run next count root at
+  pub run : at < count → Run next count root at
   pub kept : (node : ℕ) → holds before node ≡ true → holds row node ≡ true
   pub sound : (node : ℕ) → node < count → holds row node ≡ true → (holds before node ≡ true) ⊎ Run next count root node
   pub follows : (node : ℕ) → node < count → holds row node ≡ true → next node < count →
@@ -61,9 +61,9 @@ module _ {next : ℕ → ℕ} {count root : ℕ} {before : List Bool} where
       record {
         long = length-set row at true ∙ w .long;
         room = rw length-set (w .room);
-        run = one-more (w .run) h;
+        run = one-more (w .run h);
         kept = λ node e. more-held row at node room (inl (w .kept node e));
-        sound = λ node k e. ⊎-elim (w .sound node k) (λ q. inr (rw q (w .run))) (held-or-more row at node e);
+        sound = λ node k e. ⊎-elim (w .sound node k) (λ q. inr (rw q (w .run h))) (held-or-more row at node e);
         follows = λ node k e l.
             ⊎-elim (λ old. inl (more-held row at (next node) room (w .follows node k old l))) (λ q. inr (ap next q))
             (held-or-more row at node e);
@@ -83,8 +83,8 @@ module _ {next : ℕ → ℕ} {count root : ℕ} {before : List Bool} where
         exact = λ node h. rw or-false
             (same-test (holds row node) (holds before node || leads next count count root node)
             (λ e. ⊎-elim (λ old. or-inl (holds before node) _ old)
-            (λ run. or-inr (holds before node) _ (run-leads next count run h)) (w .sound node h e))
+            (λ run. or-inr (holds before node) _ (run-leads next count run)) (w .sound node h e))
             (λ e. ⊎-elim
-            (λ new. run-held closed (λ k. held root k (w .started)) (leads-run next count count root node (rw new at e)) h)
+            (λ new. run-held closed (λ k. held root k (w .started)) (leads-run next count count root node h (rw new at e)))
             (λ old. w .kept node old) (dichotomy (holds before node))));
       }

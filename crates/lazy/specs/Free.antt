@@ -15,14 +15,19 @@ rootsOf workers (suc count) =
     workers count .pred ∷ workers count .curr ∷ workers count .spare ∷ rootsOf workers count
 
 module _ (next : ℕ → ℕ) (count : ℕ) where
-  -- a run of next links leads from a node to another: a run of no links counts, a number of N or more leads nowhere
+  -- a run of next links leads from a node to another: a run of no links counts, a number of N or more is no node and leads nowhere
   pub data Run : ℕ → ℕ → Type 0 where
-    here : {node : ℕ} → Run node node
+    here : {node : ℕ} → node < count → Run node node
     on : {from node : ℕ} → from < count → Run (next from) node → Run from node
 
-  -- some run leads to a node from one of the roots; where none does, the node is free
+  -- some run leads to a node from one of the roots
   abbrev pub Reached : List ℕ → ℕ → Type 0
   Reached roots node = (root : ℕ) × List·Memᴰ root roots × Run root node
+
+  -- a node is free when none does
+  pub record IsFree (roots : List ℕ) (node : ℕ) : Type 0 where
+    pub below : node < count
+    pub unreached : Reached roots node → ⊥
 
   -- The same, tested: a run of at most so many links. Longer runs than N reach nothing more (`FreeLaws.run-leads`).
   unfoldable pub leads : ℕ → ℕ → ℕ → Bool
@@ -30,7 +35,7 @@ module _ (next : ℕ → ℕ) (count : ℕ) where
   leads (suc links) from node =
       let onward = leads links (next from) node in eqb from node || (ltb from count && onward)
 
-  -- reached, tested (`FreeLaws.reached-exact`)
+  -- reached, tested: of a node, the same as `Reached` (`FreeLaws.reached-exact`)
   unfoldable pub reached : List ℕ → ℕ → Bool
   reached [] node = false
   reached (root ∷ roots) node = let others = reached roots node in leads count root node || others

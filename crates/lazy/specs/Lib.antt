@@ -2,4 +2,5 @@
 pub mod Free
 pub mod Row
 pub mod Turn
+pub mod Claims
 pub mod Sight

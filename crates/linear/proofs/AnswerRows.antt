@@ -17,7 +17,7 @@ use Rattle.worker.specs.declared.report.Free.{Free}
 use Rattle.worker.specs.declared.report.Free.the-variants as free
 use Rattle.worker.specs.declared.report.Step.{Step}
 use Rattle.worker.specs.declared.report.Effect.the-variants.{SetNext, SetMark, Fill}
-use Rattle.linear.specs.History.{decides}
+use Rattle.linear.specs.History.{isDecision}
 use Rattle.linear.proofs.Reach.{here}
 use Rattle.linear.proofs.State.{State, shapeOf, stepped}
 use Rattle.linear.proofs.Promises.{Holds, in-pred, in-curr, in-spare, Live, Private, Neighbours, Gap, promises}
@@ -29,12 +29,12 @@ use Rattle.linear.proofs.Course.{goes-in, goes-out, present, missing, l
 use Rattle.linear.proofs.TurnKinds.{whole, removing, updates, any-look-up, curr-known, sane-parts, key-in-range, goes-row, finds-out, looks-on, settles-row}
 
 -- without an answer, neither 13 nor 23 decides
-undecided-13 : (answer : ℕ) → eqb answer 0 ≡ true → decides 13 answer ≡ false
-unfolding decides
+undecided-13 : (answer : ℕ) → eqb answer 0 ≡ true → isDecision 13 answer ≡ false
+unfolding isDecision
 undecided-13 answer e = rw (eqb-true answer 0 e)
 
-undecided-23 : (answer : ℕ) → eqb answer 0 ≡ true → decides 23 answer ≡ false
-unfolding decides
+undecided-23 : (answer : ℕ) → eqb answer 0 ≡ true → isDecision 23 answer ≡ false
+unfolding isDecision
 undecided-23 answer e = rw (eqb-true answer 0 e)
 
 module _ {nodes : ℕ} {s : State} (inv : Inv nodes s) (me : ℕ) where
@@ -64,7 +64,7 @@ module _ {nodes : ℕ} {s : State} (inv : Inv nodes s) (me : ℕ) where
 
   pub row-13 : (adding found : Bool) → eqb (w .operation) add ≡ adding → eqb (s .key (w .curr)) (w .key) ≡ found → w .stage ≡ 13 →
       Row nodes s me (cond adding (cond found (denies w 19) (to w 14)) (cond found (to w 16) (denies w 19)))
-  unfolding promises belongs decides
+  unfolding promises belongs isDecision
   row-13 true true a t at =
       let f = promised inv me at in
       let q = sane-parts inv me at (omega arith) in
@@ -142,7 +142,7 @@ module _ {nodes : ℕ} {s : State} (inv : Inv nodes s) (me : ℕ) where
         unlinked m (inr e) = rw (at-node m x (w .curr) (s .next m) e) (apart curr-live)
 
     row-fill : Row nodes s me filling
-    unfolding promises belongs decides fill
+    unfolding promises belongs isDecision fill
     row-fill =
         let q = sane-parts inv me at (omega arith) in
         goes-row inv me at (withStage (withSpare w x) 15) (Moved 15) fill tt fill-places
@@ -168,7 +168,7 @@ module _ {nodes : ℕ} {s : State} (inv : Inv nodes s) (me : ℕ) where
   FreeFound (free.Node n) = (n < nodes) × (Live nodes s n → ⊥)
 
   pub row-14 : (found : Free) → FreeFound found → w .stage ≡ 14 → Row nodes s me (takes w found)
-  unfolding promises belongs decides
+  unfolding promises belongs isDecision
   row-14 free.None f at =
       let gap = promised inv me at in
       let q = sane-parts inv me at (omega arith) in
@@ -179,7 +179,7 @@ module _ {nodes : ℕ} {s : State} (inv : Inv nodes s) (me : ℕ) where
   row-14 (free.Node n) f at = row-fill at (f .0) (f .1)
 
   pub row-15 : w .stage ≡ 15 → Row nodes s me (goes (withAnswer w 1) 19 (SetNext (w .pred) (w .spare)))
-  unfolding promises belongs decides
+  unfolding promises belongs isDecision
   row-15 at =
       let f = promised inv me at in
       let q = sane-parts inv me at (omega arith) in
@@ -190,7 +190,7 @@ module _ {nodes : ℕ} {s : State} (inv : Inv nodes s) (me : ℕ) where
       (omega arith) refl
 
   pub row-16 : w .stage ≡ 16 → Row nodes s me (goes (withAnswer w 1) 17 (SetMark (w .curr)))
-  unfolding promises belongs decides
+  unfolding promises belongs isDecision
   row-16 at =
       let f = promised inv me at in
       let q = sane-parts inv me at (omega arith) in
@@ -209,14 +209,14 @@ module _ {nodes : ℕ} {s : State} (inv : Inv nodes s) (me : ℕ) where
       (whole _ _ true (q .0) (q .1) refl) (goes-out tt (eqb-true _ _ (q .0)) refl) refl (eqb-true _ _ (q .2)) (omega arith) refl
 
   pub row-22 : w .stage ≡ 22 → Row nodes s me (to (withCurr w 0) 23)
-  unfolding promises belongs decides
+  unfolding promises belongs isDecision
   row-22 at =
       looks-on inv me at (omega arith) 23 0 (omega arith) (top refl) (record { curr-in = omega (arith, inv .shape .room) })
       (sane-at inv me at (omega arith)) refl (omega arith) (λ ahead. ahead)
 
   pub row-23 : (below equal : Bool) → ltb (s .key (w .curr)) (w .key) ≡ below → eqb (s .key (w .curr)) (w .key) ≡ equal → w .stage ≡ 23 →
       Row nodes s me (cond below (to w 24) (cond equal (to w 25) (denies w 21)))
-  unfolding promises belongs decides
+  unfolding promises belongs isDecision
   row-23 true equal t u at =
       looks-on inv me at (omega arith) 24 (w .curr) (omega arith) (curr-known inv me)
       (record { curr-in = promised inv me at .curr-in; below = ltb-true _ _ t })
@@ -236,7 +236,7 @@ module _ {nodes : ℕ} {s : State} (inv : Inv nodes s) (me : ℕ) where
       refl (eqb-true _ _ (q .2)) (omega arith) refl
 
   pub row-24 : w .stage ≡ 24 → Row nodes s me (to (withCurr w (s .next (w .curr))) 23)
-  unfolding promises belongs decides
+  unfolding promises belongs isDecision
   row-24 at =
       let f = promised inv me at in
       looks-on inv me at (omega arith) 23 (s .next (w .curr)) (omega arith) (link (w .curr) (live-held me (in-curr refl) (f .curr-in)) refl)
@@ -245,7 +245,7 @@ module _ {nodes : ℕ} {s : State} (inv : Inv nodes s) (me : ℕ) where
 
   pub row-25 : (unmarked : Bool) → eqb (s .mark (w .curr)) 0 ≡ unmarked → w .stage ≡ 25 →
       Row nodes s me (to (withAnswer w (cond unmarked (answerNumber Yes) (answerNumber No))) 21)
-  unfolding promises belongs decides
+  unfolding promises belongs isDecision
   row-25 true t at =
       let f = promised inv me at in
       let q = sane-parts inv me at (omega arith) in

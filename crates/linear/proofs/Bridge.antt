@@ -48,7 +48,7 @@ pub data Entered (workers nodes : ℕ) (arena : List ℕ) (entry : Entry) : Type
       Entered workers nodes arena entry
 
 -- the roots are read from the records of so many workers and no others
-roots-same : (a b : ℕ → Worker) (count : ℕ) → ((v : ℕ) → v < count → a v ≡ b v) → rootsOf a count ≡ rootsOf b count
+pub roots-same : (a b : ℕ → Worker) (count : ℕ) → ((v : ℕ) → v < count → a v ≡ b v) → rootsOf a count ≡ rootsOf b count
 unfolding rootsOf
 roots-same a b zero same = refl
 roots-same a b (suc count) same =
@@ -71,7 +71,7 @@ module _ {workers nodes : ℕ} {arena : List ℕ} (sound : Sound workers nodes a
       )
 
   -- with the header in order, a turn is refused for want of such a worker, or it is the turn of the worker's record
-  turn-judged : (w : ℕ) → turnOn arena w
+  pub turn-judged : (w : ℕ) → turnOn arena w
       ≡ cond (leb (workersOf arena) w) (Refused noSuchWorker) (turnOf (workerAt arena w) (suc w) (seenBy arena (workerAt arena w)))
   unfolding turnOn workerRefusals
   turn-judged w =
@@ -79,7 +79,7 @@ module _ {workers nodes : ℕ} {arena : List ℕ} (sound : Sound workers nodes a
       ∙ none-accepts (headerRefusals arena) Refused _ (sound .none)
 
   -- the turn of a worker that there is not
-  turn-unknown : (w : ℕ) → workers ≤ w → turnOn arena w ≡ Refused noSuchWorker
+  pub turn-unknown : (w : ℕ) → workers ≤ w → turnOn arena w ≡ Refused noSuchWorker
   turn-unknown w unknown = turn-judged w ∙ rw (le-leb (workersOf arena) w (omega (arith, sound .workers-are)))
 
   -- the turn of a worker that there is, where nothing refuses it

@@ -12,7 +12,7 @@ use Rattle.worker.specs.declared.report.Report.{Report}
 use Rattle.worker.specs.declared.report.Step.{Step}
 use Rattle.worker.specs.declared.report.Effect.{Effect}
 use Rattle.linear.specs.Entries.{isFinished, turnReported}
-use Rattle.linear.specs.History.{decides}
+use Rattle.linear.specs.History.{isDecision}
 use Rattle.linear.proofs.State.{State, stepped}
 use Rattle.linear.proofs.Promises.{Standing}
 use Rattle.linear.proofs.Invariant.{In, Ahead}
@@ -51,14 +51,14 @@ module _ {nodes : ℕ} {s : State} {w : ℕ} {e : Effect} (act : Act nodes s w e
     late : Keeps act → s .worker w .operation ≡ contains → new .answer ≡ answerNumber No → 23 ≤ s .worker w .stage →
         (Ahead s (s .worker w .curr) (s .worker w .key) → ⊥) → Verdict
 
-  -- how a call goes on by a turn: an idle worker rests, a turn goes on, or decides the answer, or finishes
+  -- how a call goes on by a turn: an idle worker rests; a turn goes on, with an answer where there was one; or decides it; or finishes
   pub data Course (report : Report) : Type 0 where
     rests : Keeps act → s .worker w .stage ≡ 0 → Course report
-    goes-on : Keeps act → Continues (s .worker w) new → new .answer ≡ s .worker w .answer →
-        decides (s .worker w .stage) (new .answer) ≡ false → isFinished (turnReported report) ≡ false →
+    goes-on : Keeps act → Continues (s .worker w) new → eqb (new .answer) 0 ≡ eqb (s .worker w .answer) 0 →
+        isDecision (s .worker w .stage) (new .answer) ≡ false → isFinished (turnReported report) ≡ false →
         Onward s (s .worker w .key) (s .worker w) new → Course report
     settles : Verdict → Continues (s .worker w) new → s .worker w .answer ≡ 0 → new .answer ≢ 0 →
-        decides (s .worker w .stage) (new .answer) ≡ true → isFinished (turnReported report) ≡ false → Course report
+        isDecision (s .worker w .stage) (new .answer) ≡ true → isFinished (turnReported report) ≡ false → Course report
     ends : Keeps act → s .worker w .stage ≡ 21 → new .stage ≡ 0 → isFinished (turnReported report) ≡ true → Course report
 
 -- all that is said of a turn

@@ -46,18 +46,18 @@ module _ (worker : ℕ → Worker) where
 
 -- where links lead from nodes to nodes, what they reach from a node, a run leads to
 run-of : {next : ℕ → ℕ} {count a b : ℕ} → ((n : ℕ) → n < count → next n < count) → a < count → Reach next a b → Run next count a b
-run-of inside there (here e) = rw e stays
+run-of inside there (here e) = rw (← e) (stays there)
 run-of {a} inside there (on r) = goes there (run-of inside (inside a there) r)
 
 -- a live node is reached, and a free one is not
 pub free-not-live : {nodes : ℕ} {s : State} → Inv nodes s → (workers : ℕ) → ((v : ℕ) → workers ≤ v → s .worker v ≡ idleWorker) →
     {n : ℕ} → lowestFree (s .next) nodes (rootsOf (s .worker) workers) ≡ free.Node n → (n < nodes) × (Live nodes s n → ⊥)
 free-not-live {nodes} {s} inv workers idle e =
-    let found = lowest-found (s .next) nodes (rootsOf (s .worker) workers) e in (
-      found .0,
+    let found = lowest-found (s .next) nodes (rootsOf (s .worker) workers) e .0 in (
+      found .below,
       λ live.
           let root = among (live .root) in
-          found .1 (live .from, root .0, run-of (inv .shape .inside) (root .1) (live .run)),
+          found .unreached (live .from, root .0, run-of (inv .shape .inside) (root .1) (live .run)),
     )
   where
     among : {m : ℕ} → Root nodes s m → List·Memᴰ m (rootsOf (s .worker) workers) × (m < nodes)

@@ -8,6 +8,7 @@ pub mod State
 pub mod Words
 pub mod Stepped
 pub mod Bridge
+pub mod Longer
 pub mod FreshState
 pub mod Reach
 pub mod Promises
@@ -29,6 +30,8 @@ pub mod Timeline
 pub mod Keys
 pub mod Phases
 pub mod Points
+pub mod Tellings
 pub mod Calls
 pub mod Openings
 pub mod Theorem
+pub mod LentLaws

@@ -7,7 +7,7 @@ use mathlib.Core.Bool.{Bool, true, false, cond}
 use mathlib.Mathlib.Data.Bool.Basic.{dichotomy}
 use native.Mathlib.Omega.{arith}
 use native.Mathlib.Decide.{ℕ-discrete}
-use Rattle.linear.specs.Lists.{filter, timesFrom, first}
+use Rattle.linear.specs.Lists.{filter, timesFrom, first, Each, none, _and_, Pairs, alone, _ahead_}
 
 -- a test that holds at no time is found nowhere
 pub first-none : (test : ℕ → Bool) (time left : ℕ) → ((t : ℕ) → time ≤ t → t < time + left → test t ≡ false) → first test time left ≡ 0
@@ -42,6 +42,19 @@ first-found test time (suc left) {some} h k holds =
     let onward = first-found test (suc time) left (omega arith) (omega arith) holds in
     rw fails (onward .0, omega arith, onward .2))
     (λ holds. rw holds (holds, omega arith, omega arith))
+    (dichotomy (test time))
+
+-- where one is found, it holds there, and at none before
+pub first-holds : (test : ℕ → Bool) (time left : ℕ) → first test time left ≢ 0 →
+    (test (first test time left) ≡ true) × ((t : ℕ) → time ≤ t → t < first test time left → test t ≡ false)
+unfolding first
+first-holds test time zero some = absurd (some refl)
+first-holds test time (suc left) some =
+    ⊎-elim
+    (λ fails.
+    let onward = first-holds test (suc time) left (rw fails at some) in
+    rw fails (onward .0, λ t h k. elim (ℕ-discrete t time) [ yes q ↦ rw q fails | no q ↦ onward .1 t (omega arith) k ]))
+    (λ holds. rw holds (holds, λ t h k. absurd (omega arith)))
     (dichotomy (test time))
 
 module _ {A : Type 0} where
@@ -95,18 +108,6 @@ unfolding timesFrom
 from-times time zero m = absurd (List·Memᴰ·not-nil m)
 from-times time (suc left) m =
     ⊎-elim (λ same. omega arith) (λ there. let later = from-times (suc time) left there in omega arith) (List·Memᴰ·cases-cons m)
-
--- what holds of every element of a list
-infixr 5 _and_
-pub data Each {A : Type 0} (P : A → Type 0) : List A → Type 0 where
-  none : Each P []
-  _and_ : {x : A} {xs : List A} → P x → Each P xs → Each P (x ∷ xs)
-
--- a relation between every element of a list and each later one
-infixr 5 _ahead_
-pub data Pairs {A : Type 0} (R : A → A → Type 0) : List A → Type 0 where
-  alone : Pairs R []
-  _ahead_ : {x : A} {xs : List A} → Each (R x) xs → Pairs R xs → Pairs R (x ∷ xs)
 
 -- every element is whatever is in the list
 pub each-in : {A : Type 0} {P : A → Type 0} {x : A} {xs : List A} → Each P xs → List·Memᴰ x xs → P x

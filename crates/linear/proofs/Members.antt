@@ -5,33 +5,44 @@ use mathlib.Core.Logic.{_≢_, _↔_, Iff·trans}
 use mathlib.Core.List.{List}
 use mathlib.Core.Bool.{true}
 use native.Mathlib.Decide.{ℕ-discrete}
+use native.Mathlib.Omega.{arith}
+use Rattle.worker.specs.Node.{head, tail}
 use Rattle.arena.specs.Layout.{nodesOf}
 use Rattle.linear.specs.Lists.{member}
-use Rattle.linear.specs.Sets.{setOf, OnChain, top, link, InSet}
-use Rattle.linear.proofs.SetLaws.{ChainWhole, chain-whole, set-members}
+use Rattle.linear.specs.Sets.{ChainWhole, setOf, OnChain, top, link, InSet}
+use Rattle.linear.proofs.SetLaws.{chain-whole, set-members}
 use Rattle.linear.proofs.Reach.{Reach, here, one-more, along}
 use Rattle.linear.proofs.State.{decode}
 use Rattle.linear.proofs.Bridge.{Sound}
 use Rattle.linear.proofs.Invariant.{In, Inv, live-chain, live-in}
 
 -- a run of links leads from Head to every node of the chain
-chain-run : {next : ℕ → ℕ} {n : ℕ} → OnChain next n → Reach next 0 n
-chain-run top = here refl
-chain-run (link on more) = one-more (chain-run on)
+chain-run : {next : ℕ → ℕ} {count n : ℕ} → OnChain next count n → Reach next 0 n
+chain-run (top some) = here refl
+chain-run (link on more low) = one-more (chain-run on)
 
--- and to no other, where Tail leads to itself
-run-chain : {next : ℕ → ℕ} {n : ℕ} → next 1 ≡ 1 → Reach next 0 n → OnChain next n
-run-chain {next} loops r = along (OnChain next) onward top r
+-- and to no other, where links lead from nodes to nodes, and Tail to itself
+run-chain : {next : ℕ → ℕ} {count n : ℕ} → head < count → ((m : ℕ) → m < count → next m < count) → next tail ≡ tail → Reach next 0 n →
+    OnChain next count n
+run-chain {next} {count} some inside loops r = along (OnChain next count) onward (top some) r
   where
-    onward : (n : ℕ) → OnChain next n → OnChain next (next n)
-    onward n on = elim (ℕ-discrete n 1) [ yes e ↦ rw (e, loops) (rw e at on) | no more ↦ link on more ]
+    below : {n : ℕ} → OnChain next count n → n < count
+    below (top low) = low
+    below (link on more low) = low
+
+    onward : (n : ℕ) → OnChain next count n → OnChain next count (next n)
+    onward n on = elim (ℕ-discrete n tail) [ yes e ↦ rw (e, loops) (rw e at on) | no more ↦ link on more (inside n (below on)) ]
 
 module _ {workers nodes : ℕ} {arena : List ℕ} (sound : Sound workers nodes arena) (inv : Inv nodes (decode arena)) where
+  -- there is a Head
+  some : head < nodesOf arena
+  some = omega (arith, inv .shape .room, sound .nodes-are)
+
   -- the chain is whole, since its keys rise to Tail
   pub whole : ChainWhole arena
-  whole = chain-whole arena rises (inv .shape .small)
+  whole = chain-whole arena some rises (inv .shape .small)
     where
-      rises : (n : ℕ) → OnChain (decode arena .next) n → n ≢ 1 →
+      rises : (n : ℕ) → OnChain (decode arena .next) (nodesOf arena) n → n ≢ tail →
           (decode arena .next n < nodesOf arena) × (decode arena .key n < decode arena .key (decode arena .next n))
       rises n on more =
           let live = live-chain (chain-run on) in
@@ -53,7 +64,7 @@ module _ {workers nodes : ℕ} {arena : List ℕ} (sound : Sound workers nodes a
   back i =
       record {
         node = i .node;
-        on-chain = run-chain (inv .shape .tail-next) (i .chain);
+        on-chain = run-chain some (rw (sound .nodes-are) (inv .shape .inside)) (inv .shape .tail-next) (i .chain);
         not-head = i .not-head;
         not-tail = i .not-tail;
         unmarked = i .unmarked;

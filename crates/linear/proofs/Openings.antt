@@ -13,14 +13,13 @@ use Rattle.worker.specs.declared.report.Step.{Step}
 use Rattle.linear.specs.Lists.{member}
 use Rattle.linear.specs.Sets.{setOf}
 use Rattle.linear.specs.Entries.{turnReported, isStarted}
-use Rattle.linear.specs.History.{Call, decides, arenaAt, calls}
+use Rattle.linear.specs.History.{Call, isDecision, arenaAt, calls}
 use Rattle.linear.specs.Order.{hasPoint, rank, inOrder}
 use Rattle.linear.proofs.ListLaws.{in-filter, in-map, in-times}
 use Rattle.linear.proofs.OrderLaws.{in-sorted}
 use Rattle.linear.proofs.Simulation.{does-early}
 use Rattle.linear.proofs.Reach.{here}
 use Rattle.linear.proofs.State.{State, decode, stepped}
-use Rattle.linear.proofs.FreshState.{fresh-state}
 use Rattle.linear.proofs.After.{own-after, others-after}
 use Rattle.linear.proofs.Course.{Row, Verdict, goes-in, goes-out, present, missing, late as late-verdict, Course, rests, goes-on, settles, ends}
 use Rattle.linear.proofs.Timeline.{Begun, begun-at, has, Happens, nothing, start, turn, always, happens, Schedule, arena, state, last, entry, outcome, starts-at, call-at, in-order-of}
@@ -30,8 +29,8 @@ use Rattle.linear.proofs.Points.{waits, acted, looked, Fate, fate}
 use Rattle.linear.proofs.Calls.{decided-once}
 
 -- no turn at 0 decides
-pub not-idle : (stage answer : ℕ) → decides stage answer ≡ true → stage ≢ 0
-unfolding decides
+pub not-idle : (stage answer : ℕ) → isDecision stage answer ≡ true → stage ≢ 0
+unfolding isDecision
 not-idle stage answer e idle = true≢false (sym (rw idle at e))
 
 module _ (r : Schedule) where
@@ -52,7 +51,7 @@ module _ (r : Schedule) where
 
   pub opened : (now v : ℕ) → state r now .worker v .stage ≢ 0 → Opened now v
   unfolding arenaAt
-  opened zero v busy = absurd (busy (ap (λ (w : Worker). w .stage) (fresh-state (r .workers) (r .nodes) (r .good) .idle v)))
+  opened zero v busy = absurd (busy (ap (λ (w : Worker). w .stage) (r .fresh .idle v)))
   opened (suc now) v busy =
       elim (ℕ-discrete (state r now .worker v .stage) 0) [
         | no before ↦ longer (opened now v before)
@@ -107,7 +106,7 @@ module _ (r : Schedule) where
   record Changing (t v : ℕ) (step : Step) (row : Row (r .nodes) (state r t) v step) : Type 0 where
     verdict : Verdict (row .act) (step .worker)
     unanswered : state r t .worker v .answer ≡ 0
-    decided : decides (state r t .worker v .stage) (step .worker .answer) ≡ true
+    decided : isDecision (state r t .worker v .stage) (step .worker .answer) ≡ true
     update : state r t .worker v .operation ≢ contains
 
   same-or-changing : (t v : ℕ) (step : Step) (row : Row (r .nodes) (state r t) v step) → state r (suc t) ≡ stepped (state r t) v step →

@@ -1,20 +1,19 @@
 -- Laws of the order of calls: a sort keeps the calls and puts them in order.
-use Prim.Native.Nat.{_≤_, _<_}
-use mathlib.Core.Path.{_≡_, refl}
-use mathlib.Core.Logic.{_⊎_, inl, inr, ⊎-elim}
+use Prim.Native.Nat.{ℕ, _≤_}
+use mathlib.Core.Path.{_≡_, refl, _∙_}
+use mathlib.Core.Logic.{inl, inr, ⊎-elim}
 use mathlib.Core.List.{List, [], _∷_, List·Memᴰ, List·Memᴰ·head, List·Memᴰ·tail, List·Memᴰ·cases-cons}
+use mathlib.Core.List.{List·Permᴰ, List·Permᴰ·nil, List·Permᴰ·cons, List·Permᴰ·swap, List·Permᴰ·trans, Permᴰ·refl, Permᴰ·symm}
 use mathlib.Core.Bool.{Bool, true, false, cond, _&&_, _||_}
 use mathlib.Mathlib.Data.Bool.Basic.{dichotomy}
 use native.Mathlib.Omega.{arith}
 use lib.Dec.{leb, ltb, eqb}
 use borrow.Author.Tests.{ltb-true, ltb-false, leb-true, leb-false, eqb-true, eqb-false}
-use Rattle.linear.specs.History.{Call}
-use Rattle.linear.specs.Order.{rank, goesBefore, inserted, sorted}
-use Rattle.linear.proofs.ListLaws.{Each, none, _and_, Pairs, alone, _ahead_, each-in, each-of}
-
--- one call is before another, by point and rank
-abbrev pub Before : Call → Call → Type 0
-Before a b = (a .point < b .point) ⊎ ((a .point ≡ b .point) × (rank a ≤ rank b))
+use Rattle.linear.specs.Lists.{filter, Each, none, _and_, Pairs, alone, _ahead_}
+use Rattle.linear.specs.Entries.{Entry}
+use Rattle.linear.specs.History.{Call, calls}
+use Rattle.linear.specs.Order.{hasPoint, rank, Before, goesBefore, inserted, sorted, inOrder, Ordered}
+use Rattle.linear.proofs.ListLaws.{each-in, each-of, pairs-weaken}
 
 -- what is before a call is before each later one
 before-trans : (a b c : Call) → Before a b → Before b c → Before a c
@@ -37,42 +36,36 @@ tested a b =
     go false true false e s l = inr (omega (arith, eqb-true, leb-false))
     go false false lower e s l = inl (omega (arith, ltb-false, eqb-false (a .point) (b .point) s))
 
--- what is in a list is in it with its first two in the other order, and behind one more
-exchanged : {call a b : Call} {cs : List Call} → List·Memᴰ call (a ∷ b ∷ cs) → List·Memᴰ call (b ∷ a ∷ cs)
-exchanged m =
-    ⊎-elim (λ first. List·Memᴰ·tail (List·Memᴰ·head first))
-    (λ there. ⊎-elim List·Memᴰ·head (λ later. List·Memᴰ·tail (List·Memᴰ·tail later)) (List·Memᴰ·cases-cons there))
-    (List·Memᴰ·cases-cons m)
-
-behind : {call other : Call} {cs ds : List Call} → (List·Memᴰ call cs → List·Memᴰ call ds) →
-    List·Memᴰ call (other ∷ cs) → List·Memᴰ call (other ∷ ds)
-behind keeps m = ⊎-elim List·Memᴰ·head (λ there. List·Memᴰ·tail (keeps there)) (List·Memᴰ·cases-cons m)
-
--- a call put in its place is there with the others
-in-inserted : {call : Call} (new : Call) (cs : List Call) → List·Memᴰ call (new ∷ cs) → List·Memᴰ call (inserted new cs)
+-- a call put in its place is there with the others, each once
+inserted-same : (new : Call) (cs : List Call) → List·Permᴰ (inserted new cs) (new ∷ cs)
 unfolding inserted
-in-inserted new [] m = m
-in-inserted new (other ∷ others) m =
-    ⊎-elim (λ later. rw later (behind (in-inserted new others) (exchanged m))) (λ before. rw before m)
-    (dichotomy (goesBefore new other))
+inserted-same new [] = Permᴰ·refl (new ∷ [])
+inserted-same new (other ∷ others) =
+    ⊎-elim (λ later. rw later (List·Permᴰ·trans (List·Permᴰ·cons refl (inserted-same new others)) (List·Permᴰ·swap refl refl)))
+    (λ before. rw before (Permᴰ·refl (new ∷ other ∷ others))) (dichotomy (goesBefore new other))
 
-from-inserted : {call : Call} (new : Call) (cs : List Call) → List·Memᴰ call (inserted new cs) → List·Memᴰ call (new ∷ cs)
-unfolding inserted
-from-inserted new [] m = m
-from-inserted new (other ∷ others) m =
-    ⊎-elim (λ later. exchanged (behind (from-inserted new others) (rw later at m))) (λ before. rw before at m)
-    (dichotomy (goesBefore new other))
-
--- a sorted list holds what the list did
-pub in-sorted : {call : Call} {cs : List Call} → List·Memᴰ call cs → List·Memᴰ call (sorted cs)
+-- so a sorted list has the calls of the list, each as often
+sorted-same : (cs : List Call) → List·Permᴰ (sorted cs) cs
 unfolding sorted
-in-sorted {cs = []} m = m
-in-sorted {cs = first ∷ others} m = in-inserted first (sorted others) (behind in-sorted m)
+sorted-same [] = List·Permᴰ·nil
+sorted-same (first ∷ others) = List·Permᴰ·trans (inserted-same first (sorted others)) (List·Permᴰ·cons refl (sorted-same others))
+
+-- what is in a list is in every list of the same calls
+in-same : {call : Call} {cs ds : List Call} → List·Permᴰ cs ds → List·Memᴰ call cs → List·Memᴰ call ds
+in-same List·Permᴰ·nil m = m
+in-same (List·Permᴰ·cons e same) m =
+    ⊎-elim (λ first. List·Memᴰ·head (first ∙ e)) (λ there. List·Memᴰ·tail (in-same same there)) (List·Memᴰ·cases-cons m)
+in-same (List·Permᴰ·swap e f) m =
+    ⊎-elim (λ first. List·Memᴰ·tail (List·Memᴰ·head (first ∙ e)))
+    (λ there. ⊎-elim (λ second. List·Memᴰ·head (second ∙ f)) (λ later. List·Memᴰ·tail (List·Memᴰ·tail later)) (List·Memᴰ·cases-cons there))
+    (List·Memᴰ·cases-cons m)
+in-same (List·Permᴰ·trans same more) m = in-same more (in-same same m)
+
+pub in-sorted : {call : Call} {cs : List Call} → List·Memᴰ call cs → List·Memᴰ call (sorted cs)
+in-sorted {cs = cs} = in-same (Permᴰ·symm (sorted-same cs))
 
 pub from-sorted : {call : Call} {cs : List Call} → List·Memᴰ call (sorted cs) → List·Memᴰ call cs
-unfolding sorted
-from-sorted {cs = []} m = m
-from-sorted {cs = first ∷ others} m = behind from-sorted (from-inserted first (sorted others) m)
+from-sorted {cs = cs} = in-same (sorted-same cs)
 
 module _ {R : Call → Call → Type 0} (either : (a b : Call) → R a b → R b a) where
   -- a call put in its place keeps a list in order
@@ -87,7 +80,7 @@ module _ {R : Call → Call → Type 0} (either : (a b : Call) → R a b → R b
       (each-of (inserted new others)
       (λ c m.
       ⊎-elim (λ same. rw same (rw later at (tested new other), either new other related)) (λ there. each-in each there)
-      (List·Memᴰ·cases-cons (from-inserted new others m)))
+      (List·Memᴰ·cases-cons (in-same (inserted-same new others) m)))
       ahead inserted-pairs new others all pairs))
       (λ first.
       let before = rw first at (tested new other) in
@@ -102,3 +95,19 @@ module _ {R : Call → Call → Type 0} (either : (a b : Call) → R a b → R b
   sorted-pairs [] alone = alone
   sorted-pairs (first ∷ others) (each ahead pairs) =
       inserted-pairs first (sorted others) (each-of (sorted others) (λ c m. each-in each (from-sorted m))) (sorted-pairs others pairs)
+
+-- of every two calls nothing is asked
+any-pairs : (cs : List Call) → Pairs (λ a b. Unit {0}) cs
+any-pairs [] = alone
+any-pairs (first ∷ others) = each-of others (λ c m. tt) ahead any-pairs others
+
+pub ordered : (initial : List ℕ) (entries : List Entry) → Ordered initial entries
+unfolding inOrder
+ordered initial entries =
+    let some = filter hasPoint (calls initial entries) in
+    record {
+      same-calls = sorted-same some;
+      by-point =
+          pairs-weaken {P = λ c. Unit {0}} (λ a b _ _ both. both .0) (each-of (sorted some) (λ c m. tt))
+          (sorted-pairs (λ a b related. related) some (any-pairs some));
+    }

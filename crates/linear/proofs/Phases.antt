@@ -8,7 +8,7 @@ use native.Mathlib.Omega.{arith}
 use native.Mathlib.Decide.{ℕ-discrete}
 use native.Mathlib.Numerals.{sub-one}
 use lib.Dec.{eqb}
-use borrow.Author.Tests.{eq-eqb, ne-eqb}
+use borrow.Author.Tests.{eqb-true, eq-eqb, ne-eqb}
 use Rattle.worker.specs.Worker.{contains, startedWorker, firstStage}
 use Rattle.worker.specs.Report.{answerNumber}
 use Rattle.worker.specs.declared.Worker.{Worker}
@@ -17,7 +17,7 @@ use Rattle.worker.specs.declared.report.Report.{Report}
 use Rattle.worker.specs.declared.report.Step.{Step}
 use Rattle.worker.proofs.Laws.{range-bounds}
 use Rattle.linear.specs.Entries.{callStarted, turnReported, isReported, isFinished}
-use Rattle.linear.specs.History.{decides, finishesAt, decidesAt}
+use Rattle.linear.specs.History.{isDecision, finishesAt, decidesAt}
 use Rattle.linear.proofs.Reach.{here, same?}
 use Rattle.linear.proofs.State.{State, decode, stepped, startStep}
 use Rattle.linear.proofs.Promises.{in-curr, Live, promises}
@@ -137,12 +137,12 @@ module _ (r : Schedule) where
     -- a turn of the worker is judged by its stage and the answer it keeps then
     turn-decides : (now : ℕ) {report : Report} → outcome r now ≡ turnReported report →
         entry r now .worker ≡ v →
-        decisive r v (suc now) ≡ decides (state r now .worker v .stage) (state r (suc now) .worker v .answer)
+        decisive r v (suc now) ≡ isDecision (state r now .worker v .stage) (state r (suc now) .worker v .answer)
     unfolding decidesAt
     turn-decides now event own =
         rw (event, eq-eqb _ _ own, sub-one, own-worker r now v (b .known), own-worker r (suc now) v (b .known))
 
-    turn-finishes : (now : ℕ) {report : Report} → outcome r now ≡ turnReported report →
+    pub turn-finishes : (now : ℕ) {report : Report} → outcome r now ≡ turnReported report →
         entry r now .worker ≡ v →
         finishing r v (suc now) ≡ isFinished (turnReported report)
     unfolding finishesAt
@@ -194,8 +194,8 @@ module _ (r : Schedule) where
       after : state r (suc now) .worker v ≡ step .worker
       after = ap (λ (s : State). s .worker v) next ∙ own-after inv v (row .act) (row .placed)
 
-      decides-now : {answer : Bool} → decides (before .stage) (step .worker .answer) ≡ answer → decisive r v (suc now) ≡ answer
-      decides-now e = turn-decides now event own ∙ ap (λ (w : Worker). decides (before .stage) (w .answer)) after ∙ e
+      decides-now : {answer : Bool} → isDecision (before .stage) (step .worker .answer) ≡ answer → decisive r v (suc now) ≡ answer
+      decides-now e = turn-decides now event own ∙ ap (λ (w : Worker). isDecision (before .stage) (w .answer)) after ∙ e
 
       finishes-now : {answer : Bool} → isFinished (turnReported (step .report)) ≡ answer → finishing r v (suc now) ≡ answer
       finishes-now e = turn-finishes now event own ∙ e
@@ -261,7 +261,7 @@ module _ (r : Schedule) where
       -- the turn decides the answer of a call that runs
       pub decided-now : Open now → None (decisive r v) now →
           (22 ≤ before .stage → Sight now (spot before)) → Verdict (row .act) (step .worker) →
-          decides (before .stage) (step .worker .answer) ≡ true → Decided now
+          isDecision (before .stage) (step .worker .answer) ≡ true → Decided now
       decided-now o none look verdict settled =
           record { begun = o .begun; decided = decides-now settled; undecided = none; settled = settled-now o look verdict }
 
@@ -269,13 +269,14 @@ module _ (r : Schedule) where
       own-turn (finished time finish past earlier it done rest none) course = finished time finish past (omega arith) it done rest none
       own-turn (runs o undecided none look) (rests it idle) = absurd (o .busy idle)
       own-turn (runs o undecided none look) (goes-on it continues same silent unfinished onward) =
-          runs (open-next o continues unfinished) (rw after (same ∙ undecided)) (up-to none (decides-now silent)) (look-next o onward look)
+          runs (open-next o continues unfinished) (rw after (eqb-true _ 0 (same ∙ eq-eqb _ 0 undecided))) (up-to none (decides-now silent))
+          (look-next o onward look)
       own-turn (runs o undecided none look) (settles verdict continues none-yet decided settled unfinished) =
           closes (open-next o continues unfinished) (rw after decided) now (omega arith) (decided-now o none look verdict settled)
       own-turn (runs o undecided none look) (ends it last idle done) = absurd (answered inv v last undecided)
       own-turn (closes o decided time past it) (rests keeps idle) = absurd (o .busy idle)
       own-turn (closes o decided time past it) (goes-on keeps continues same silent unfinished onward) =
-          closes (open-next o continues unfinished) (rw (after, same) decided) time (omega arith) it
+          closes (open-next o continues unfinished) (rw after (λ none. decided (eqb-true _ 0 (sym same ∙ eq-eqb _ 0 none)))) time (omega arith) it
       own-turn (closes o decided time past it) (settles verdict continues none-yet answer settled unfinished) = absurd (decided none-yet)
       own-turn (closes o decided time past it) (ends keeps last idle done) =
           finished time now past (omega arith) it (finishes-now done) (rw after idle) (o .unfinished)

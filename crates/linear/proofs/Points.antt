@@ -34,10 +34,10 @@ module _ (r : Schedule) where
     made point finish answer =
         record { worker = v; operation = operation; key = key; start = suc time; point = point; finish = finish; answer = answer }
 
-    made-of : {finish decision answer point : ℕ} → finishOf (r .workers) (r .nodes) (r .entries) v (suc time) ≡ finish →
-        decisionOf (r .workers) (r .nodes) (r .entries) v (suc time) finish ≡ decision →
-        answerOf (r .workers) (r .nodes) (r .entries) v decision ≡ answer →
-        pointOf (r .workers) (r .nodes) (r .entries) (entry r time) (suc time) decision answer ≡ point →
+    made-of : {finish decision answer point : ℕ} → finishOf (r .initial) (r .entries) v (suc time) ≡ finish →
+        decisionOf (r .initial) (r .entries) v (suc time) finish ≡ decision →
+        answerOf (r .initial) (r .entries) v decision ≡ answer →
+        pointOf (r .initial) (r .entries) (entry r time) (suc time) decision answer ≡ point →
         call-at r (suc time) ≡ made point finish answer
     unfolding callAt
     made-of f d a p = rw (f, d, a, p)
@@ -69,16 +69,16 @@ module _ (r : Schedule) where
 
     -- the record of a call that is decided, with the last of its turns
     module _ (t finish until : ℕ) (it : Decided r time b t) (in-time : t < last r) (later : (finish ≡ 0) ⊎ (suc t < finish))
-        (finishes : finishOf (r .workers) (r .nodes) (r .entries) v (suc time) ≡ finish)
+        (finishes : finishOf (r .initial) (r .entries) v (suc time) ≡ finish)
         (ends : cond (eqb finish 0) (last r) finish ≡ until) (enough : suc t ≤ until) where
-      decision : decisionOf (r .workers) (r .nodes) (r .entries) v (suc time) finish ≡ suc t
+      decision : decisionOf (r .initial) (r .entries) v (suc time) finish ≡ suc t
       unfolding decisionOf
       decision =
           rw ends
           (first-is (decisive r v) (suc (suc time)) (until - suc time) (suc t) (omega (arith, it .begun)) (omega (arith, it .begun))
           (it .decided) (λ s low high. it .undecided s (omega arith) (omega arith)))
 
-      answer : answerOf (r .workers) (r .nodes) (r .entries) v (suc t) ≡ answerAt t
+      answer : answerOf (r .initial) (r .entries) v (suc t) ≡ answerAt t
       unfolding answerOf
       answer = rw (ne-eqb (suc t) 0 (omega arith)) (ap (λ (w : Worker). w .answer) (sym (own-worker r (suc t) v (b .known))))
 
@@ -86,9 +86,9 @@ module _ (r : Schedule) where
       unfolding pointOf absentAt
       fate-of (acts does) = acted t finish it in-time later does (made-of finishes decision answer (rw (does-early does)))
       fate-of (looks-up asks denies gone) =
-          let found = first-found (absentAt (r .workers) (r .nodes) (r .entries) key) (suc time) (suc (suc t) - suc time) (gone .begun)
+          let found = first-found (absentAt (r .initial) (r .entries) key) (suc time) (suc (suc t) - suc time) (gone .begun)
           (omega (arith, gone .begun, gone .past, it .begun)) (rw (gone .absent)) in
-          looked t finish (first (absentAt (r .workers) (r .nodes) (r .entries) key) (suc time) (suc (suc t) - suc time)) it in-time
+          looked t finish (first (absentAt (r .initial) (r .entries) key) (suc time) (suc (suc t) - suc time)) it in-time
           later asks denies
           (not-true _ (found .0)) (found .1) (omega (arith, found .2, gone .past))
           (made-of finishes decision answer (rw (asks, denies)))

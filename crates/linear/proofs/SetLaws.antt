@@ -15,15 +15,10 @@ use Rattle.worker.specs.Node.{head, tail}
 use Rattle.arena.specs.Layout.{layoutOf, nodesOf, nodeWidth, nodePart}
 use Rattle.arena.specs.Records.{keyAt, nextAt}
 use Rattle.arena.specs.Snapshot.{walk, chain, isNone}
-use Rattle.linear.specs.Lists.{filter, member}
-use Rattle.linear.specs.Sets.{nodeIn, isUnmarked, chainOf, setOf, OnChain, top, link, InSet}
+use Rattle.linear.specs.Lists.{filter, member, Each, none, _and_, Pairs, alone, _ahead_, Rising}
+use Rattle.linear.specs.Sets.{nodeIn, isUnmarked, walkOf, ChainWhole, chainOf, setOf, OnChain, top, link, InSet}
 use Rattle.linear.specs.Sequential.{including, excluding}
-use Rattle.linear.proofs.ListLaws.{in-filter, from-filter, in-map, from-map}
-use Rattle.linear.proofs.ListLaws.{Each, none, _and_, Pairs, alone, _ahead_, each-in, each-of, pairs-filter, pairs-map}
-
--- keys rise
-abbrev pub Rising : List ℕ → Type 0
-Rising = Pairs (λ a b. a < b)
+use Rattle.linear.proofs.ListLaws.{in-filter, from-filter, in-map, from-map, each-in, each-of, pairs-filter, pairs-map}
 
 -- the keys of a list are what is in it
 in-member : {key : ℕ} {keys : List ℕ} → List·Memᴰ key keys → member key keys ≡ true
@@ -169,11 +164,11 @@ module _ {count : ℕ} {key next : ℕ → ℕ} where
   walked-rises (passed {nodes} h low above onward) = each-of nodes (λ n m. walked-above onward m) ahead walked-rises onward
 
   -- each is on the chain, and is not Tail
-  walked-on : {last node n : ℕ} {nodes : List ℕ} → OnChain next node → Walked count key next last node nodes → List·Memᴰ n nodes →
-      OnChain next n × (n ≢ tail)
+  walked-on : {last node n : ℕ} {nodes : List ℕ} → (node < count → OnChain next count node) → Walked count key next last node nodes →
+      List·Memᴰ n nodes → OnChain next count n × (n ≢ tail)
   walked-on on (ended e) m = absurd (List·Memᴰ·not-nil m)
   walked-on on (passed h low above onward) m =
-      ⊎-elim (λ same. rw same (on, h)) (λ there. walked-on (link on h) onward there) (List·Memᴰ·cases-cons m)
+      ⊎-elim (λ same. rw same (on low, h)) (λ there. walked-on (link (on low) h) onward there) (List·Memᴰ·cases-cons m)
 
   -- the first is one of them, and so is what follows one of them, if it is not Tail
   walked-first : {last node : ℕ} {nodes : List ℕ} → Walked count key next last node nodes → node ≢ tail → List·Memᴰ node nodes
@@ -188,10 +183,10 @@ module _ {count : ℕ} {key next : ℕ → ℕ} where
       (⊎-elim (λ same. rw same (walked-first onward (rw same at h))) (λ there. walked-next onward there h) (List·Memᴰ·cases-cons m))
 
   -- so the nodes from Head's next on are all those of the chain but Head and Tail
-  on-walked : {last n : ℕ} {nodes : List ℕ} → Walked count key next last (next head) nodes → OnChain next n → n ≢ head → n ≢ tail →
-      List·Memᴰ n nodes
-  on-walked walked top h t = absurd (h refl)
-  on-walked walked (link {node} on k) h t =
+  on-walked : {last n : ℕ} {nodes : List ℕ} → Walked count key next last (next head) nodes → OnChain next count n → n ≢ head →
+      n ≢ tail → List·Memᴰ n nodes
+  on-walked walked (top low) h t = absurd (h refl)
+  on-walked walked (link {node} on k low) h t =
       elim (ℕ-discrete node head) [
         | yes q ↦ rw q (walked-first walked (rw q at t))
         | no q ↦ walked-next walked (on-walked walked on q k) t
@@ -235,11 +230,11 @@ module _ (width : ℕ) (words : List ℕ) (count : ℕ) where
       ]
 
   -- where the keys of the chain rise to Tail, steps up to the highest key are enough
-  module _ (rises : (n : ℕ) → OnChain (nextAt width words) n → n ≢ tail →
+  module _ (rises : (n : ℕ) → OnChain (nextAt width words) count n → n ≢ tail →
       (nextAt width words n < count) × (keyAt width words n < keyAt width words (nextAt width words n)))
       (small : (n : ℕ) → keyAt width words n ≤ 65535) where
-    walk-whole : (steps : ℕ) {node : ℕ} → OnChain (nextAt width words) node → node ≢ tail → 65535 < keyAt width words node + steps →
-        isNone (walk width words count steps (keyAt width words node) (nextAt width words node)) ≡ false
+    walk-whole : (steps : ℕ) {node : ℕ} → OnChain (nextAt width words) count node → node ≢ tail →
+        65535 < keyAt width words node + steps → isNone (walk width words count steps (keyAt width words node) (nextAt width words node)) ≡ false
     unfolding walk
     walk-whole zero {node} on h enough = absurd (omega (arith, small node))
     walk-whole (suc steps) {node} on h enough =
@@ -250,32 +245,25 @@ module _ (width : ℕ) (words : List ℕ) (count : ℕ) where
           | no q ↦
               rw (ne-eqb following tail q, lt-ltb _ _ (step .0), lt-ltb _ _ (step .1))
               (mapped-none following (walk width words count steps (keyAt width words following) (nextAt width words following))
-              (walk-whole steps (link on h) q (omega arith)))
+              (walk-whole steps (link on h (step .0)) q (omega arith)))
         ]
 
--- a node's key and next, and the walk from Head, of an arena
+-- a node's key and next, of an arena
 abbrev pub keyOf : List ℕ → ℕ → ℕ
 keyOf arena node = nodeIn arena node .key
 
 abbrev pub nextOf : List ℕ → ℕ → ℕ
 nextOf arena node = nodeIn arena node .next
 
-abbrev pub walkOf : List ℕ → Option (List ℕ)
-walkOf arena = chain (nodeWidth (layoutOf arena)) (nodePart arena) (nodesOf arena)
-
--- the chain is not broken
-abbrev pub ChainWhole : List ℕ → Type 0
-ChainWhole arena = isNone (walkOf arena) ≡ false
-
 module _ (arena : List ℕ) where
   -- a chain whose keys rise to Tail is whole: each node has a key above the last, and keys are words, so 65,536 steps are enough
-  pub chain-whole :
-      ((n : ℕ) → OnChain (λ m. nodeIn arena m .next) n → n ≢ tail →
+  pub chain-whole : head < nodesOf arena →
+      ((n : ℕ) → OnChain (λ m. nodeIn arena m .next) (nodesOf arena) n → n ≢ tail →
       (nodeIn arena n .next < nodesOf arena) × (nodeIn arena n .key < nodeIn arena (nodeIn arena n .next) .key)) →
       ((n : ℕ) → nodeIn arena n .key ≤ 65535) → ChainWhole arena
   unfolding chain
-  chain-whole rises small =
-      walk-whole (nodeWidth (layoutOf arena)) (nodePart arena) (nodesOf arena) rises small 65536 top (λ q. omega arith) (omega arith)
+  chain-whole any rises small =
+      walk-whole (nodeWidth (layoutOf arena)) (nodePart arena) (nodesOf arena) rises small 65536 (top any) (λ q. omega arith) (omega arith)
 
   -- the nodes that the walk finds
   found-walked : (nodes : List ℕ) → walkOf arena ≡ some nodes →
@@ -304,7 +292,7 @@ module _ (arena : List ℕ) where
       forth e =
           let found = from-map (keyOf arena) (from-member key (setOf arena) e) in
           let passed = from-filter (isUnmarked arena) (found .1) in
-          let on = walked-on (link top (λ q. omega arith)) (whole-walked whole) (passed .0) in
+          let on = walked-on (λ low. link (top (omega arith)) (λ q. omega arith) low) (whole-walked whole) (passed .0) in
           let above = walked-above (whole-walked whole) (passed .0) in
           record {
             node = found .0;

@@ -10,14 +10,13 @@ use lib.Dec.{eqb}
 use Rattle.worker.specs.Worker.{add, remove, contains}
 use Rattle.worker.specs.Report.{answerNumber}
 use Rattle.worker.specs.declared.report.Answer.the-variants.{Yes, No, Full}
-use Rattle.linear.specs.Lists.{member}
+use Rattle.linear.specs.Lists.{member, Each, none, _and_, Pairs, alone, _ahead_, Rising}
 use Rattle.linear.specs.History.{Call, isLate}
-use Rattle.linear.specs.Order.{rank}
-use Rattle.linear.specs.Sequential.{replyTo, fed, answersTo, keysAfter}
-use Rattle.linear.proofs.ListLaws.{Each, none, _and_, Pairs, alone, _ahead_, each-in, each-of}
+use Rattle.linear.specs.Order.{rank, Before}
+use Rattle.linear.specs.Sequential.{responseTo, fed, answersTo, keysAfter}
+use Rattle.linear.proofs.ListLaws.{each-in, each-of}
 use Rattle.linear.proofs.SequentialLaws.{add-absent, add-full, add-present, remove-present, remove-absent, contains-present, contains-absent}
-use Rattle.linear.proofs.OrderLaws.{Before}
-use Rattle.linear.proofs.SetLaws.{Rising, including-member, excluding-member, including-rises, excluding-rises}
+use Rattle.linear.proofs.SetLaws.{including-member, excluding-member, including-rises, excluding-rises}
 
 -- what a call does, whole, between the sets of two times: of operation, key and answer
 pub data Does (before after : ℕ → Bool) (operation key answer : ℕ) : Type 0 where
@@ -51,7 +50,8 @@ Holds set keys = Rising keys × ((key : ℕ) → member key keys ≡ set key)
 -- the sequential set answers a call as it was answered, and then has the keys of a set
 abbrev Answered : (ℕ → Bool) → List ℕ → ℕ → ℕ → ℕ → Type 0
 Answered after keys operation key answer =
-    let reply = replyTo keys operation key (eqb answer (answerNumber Full)) in (reply .answer ≡ answer) × Holds after (reply .keys)
+    let response = responseTo keys operation key (eqb answer (answerNumber Full)) in
+    (response .answer ≡ answer) × Holds after (response .keys)
 
 -- where a set stays as it is, keys are still its keys
 kept : {before after : ℕ → Bool} {keys : List ℕ} → Holds before keys → ((k : ℕ) → after k ≡ before k) → Holds after keys
@@ -83,6 +83,20 @@ module _ {before after : ℕ → Bool} {operation key answer : ℕ} where
   does-early (removes o a present changes) = rw o
   does-early (removes-not o a absent stays) = rw o
   does-early (finds o a present stays) = rw (o, a)
+
+  -- and there is an answer
+  does-answer : Does before after operation key answer → answer ≢ 0
+  does-answer (adds o a absent changes) = omega arith
+  does-answer (adds-not o a present stays) = omega arith
+  does-answer (is-full o a absent stays) = omega arith
+  does-answer (removes o a present changes) = omega arith
+  does-answer (removes-not o a absent stays) = omega arith
+  does-answer (finds o a present stays) = omega arith
+
+-- a call that is placed has an answer
+pub placed-answer : {has : ℕ → ℕ → Bool} {call : Call} → Placed has call → call .answer ≢ 0
+placed-answer (acting time point does) = does-answer does
+placed-answer (late asks denies absent) = omega arith
 
 -- to a contains of a key that is absent the sequential set answers no
 late-answered : {set : ℕ → Bool} {operation answer : ℕ} (key : ℕ) {keys : List ℕ} →
@@ -170,12 +184,12 @@ module _ (has : ℕ → ℕ → Bool) (last : ℕ) where
   all-answered now keys [] h holds steady later pairs placed ended =
       (refl, kept holds (stays now last [] steady h (omega arith) none))
   all-answered now keys (call ∷ cs) h holds steady (comes and later) (before ahead pairs) (place and placed) (ends and ended) =
-      let reply = first-answered holds steady comes (each-of cs (λ other m. each-in before m .0)) place ends in
+      let response = first-answered holds steady comes (each-of cs (λ other m. each-in before m .0)) place ends in
       let others =
-      all-answered (call .point) (fed keys call .keys) cs ends (reply .1)
+      all-answered (call .point) (fed keys call .keys) cs ends (response .1)
       (λ time k l quiet. steady time (omega (arith, comes .not-before)) l ((λ r. omega arith) and quiet))
       (each-of cs (λ other m. let after = each-in before m in following-apart call (after .0) (after .1))) pairs placed ended in
-      (ap₂ _∷_ (reply .0) (others .0), others .1)
+      (ap₂ _∷_ (response .0) (others .0), others .1)
 
 -- the calls in order, taken by the sequential set one after another, are answered as they were, and it ends with the set of the last time
 pub simulated : (has : ℕ → ℕ → Bool) (last : ℕ) (cs : List Call) →

@@ -15,11 +15,11 @@ use Rattle.worker.specs.declared.report.Turned.the-variants.{Done}
 use Rattle.worker.proofs.RefusalLaws.{NoneHolds, none-accepts}
 use Rattle.worker.proofs.EffectLaws.{EffectBelow}
 use Rattle.arena.specs.Layout.{word, headerWidth, workerWidth, workerStage, workerOperation, workerKey, workerPred, workerCurr, workerSpare, workerAnswer, workerReserved, nodeKey, nodeNext, nodeMark, nodeOwner, workerFrom, nodeWidth, slot, headerWords, workersOf, nodesOf, nodesFromOf, nodeFrom}
-use Rattle.arena.specs.Records.{workerAt, workerWords, withWorker, nodeAt}
+use Rattle.arena.specs.Records.{workerAt, workerWords, withWorker, nodeAt, Outside}
 use Rattle.arena.specs.Replies.{refused, accepted}
 use Rattle.arena.specs.Header.{isHeader, headerRefusals}
 use Rattle.arena.proofs.HeaderLaws.{Header, header-holds}
-use Rattle.arena.proofs.RecordLaws.{Outside, read-back, others-stay}
+use Rattle.arena.proofs.RecordLaws.{read-back, others-stay}
 use Rattle.lazy.specs.Turn.{withEffect, turnedArena}
 use Rattle.lazy.proofs.InsideLaws.{field-inside}
 use Rattle.linear.proofs.State.{decode, wordAfter, stepped}

@@ -1,29 +1,32 @@
 -- Demand 3: every list of entries from a fresh arena is linearizable, and no turn of it meets 6 or 7.
 use Prim.Native.Nat.{ℕ, zero, suc, _+_, _-_, _≤_, _<_}
 use mathlib.Core.Path.{_≡_, sym, subst, _∙_}
-use mathlib.Core.Logic.{⊎-elim, _≢_}
+use mathlib.Core.Logic.{⊎-elim, _≢_, _↔_}
 use mathlib.Core.List.{List, List·Memᴰ}
 use mathlib.Core.Bool.{true, false, true≢false}
 use native.Mathlib.Omega.{arith}
 use Rattle.worker.specs.Refusals.{noSuchWorker, brokenRecord, brokenChain}
 use Rattle.arena.specs.Layout.{goodCounts}
-use Rattle.linear.specs.Lists.{filter}
+use Rattle.arena.specs.Init.{freshWords}
+use Rattle.linear.specs.Lists.{filter, Pairs}
 use Rattle.linear.specs.Entries.{Entry, turnReported, entryRefused}
 use Rattle.linear.specs.History.{Call, entryAt, arenaAt, eventAt, calls}
-use Rattle.linear.specs.Order.{hasPoint, rank, inOrder}
-use Rattle.linear.specs.Linearizable.{Linearizable, Unbroken}
-use Rattle.linear.proofs.ListLaws.{from-filter, from-map, from-times, Pairs, each-of, pairs-mapped, pairs-filter, pairs-weaken}
-use Rattle.linear.proofs.OrderLaws.{Before, from-sorted, sorted-pairs}
-use Rattle.linear.proofs.SetLaws.{rising-same, set-rises}
-use Rattle.linear.proofs.Simulation.{Placed, Apart, simulated}
+use Rattle.linear.specs.Order.{hasPoint, rank, inOrder, Before}
+use Rattle.linear.specs.Linearizable.{Linearizable, Unbroken, ExactSets}
+use Rattle.linear.proofs.ListLaws.{from-filter, from-map, from-times, each-of, pairs-mapped, pairs-filter, pairs-weaken}
+use Rattle.linear.proofs.OrderLaws.{from-sorted, sorted-pairs}
+use Rattle.linear.proofs.SetLaws.{rising-same, set-rises, set-members}
+use Rattle.linear.proofs.Simulation.{Placed, Apart, placed-answer, simulated}
 use Rattle.linear.proofs.Reach.{Reach, here, on, stuck}
 use Rattle.linear.proofs.Bridge.{Entered, refuses, starts, turns}
-use Rattle.linear.proofs.FreshState.{FreshState, fresh-state}
+use Rattle.linear.proofs.FreshState.{FreshState}
 use Rattle.linear.proofs.Invariant.{In}
-use Rattle.linear.proofs.Timeline.{begun-at, has, start, entered-at, always, Schedule, arena, state, last, starts-at, call-at, calls-of, in-order-of}
+use Rattle.linear.proofs.Members.{whole}
+use Rattle.linear.proofs.Timeline.{sound, begun-at, has, start, entered-at, always, Schedule, freshSchedule, arena, state, last, starts-at, call-at, calls-of, in-order-of}
 use Rattle.linear.proofs.Keys.{absent-of}
 use Rattle.worker.specs.declared.report.Report.{Report}
 use Rattle.linear.proofs.Points.{fate}
+use Rattle.linear.proofs.Tellings.{Telling, told-answer}
 use Rattle.linear.proofs.Calls.{Told, open-yet, pointed, told, own-points}
 use Rattle.linear.proofs.Openings.{changes}
 
@@ -53,12 +56,18 @@ module _ (r : Schedule) where
       later zero low high starting same = absurd (omega arith)
       later (suc time) low high starting same = (time, starting, omega arith, same)
 
-  -- so it is known what is told of it
+  -- so it is known what is told of it, and what its worker reports at its finish
   told-of : {call : Call} → List·Memᴰ call (calls-of r) → Told r call
   told-of m =
       let (time, starting, upto, same) = call-of m in
       let b = begun-at r time starting in
       subst (Told r) (sym same) (told r time b (fate r time b upto))
+
+  tells-of : {call : Call} → List·Memᴰ call (calls-of r) → Telling r call
+  tells-of m =
+      let (time, starting, upto, same) = call-of m in
+      let b = begun-at r time starting in
+      subst (Telling r) (sym same) (told-answer r time b (fate r time b upto))
 
   -- of the calls in order: each is one of the calls and has a point
   of-order : {call : Call} → List·Memᴰ call (in-order-of r) → List·Memᴰ call (calls-of r) × (hasPoint call ≡ true)
@@ -70,7 +79,7 @@ module _ (r : Schedule) where
 
   -- and it is placed rightly, in time
   placed-of : {call : Call} → Told r call → call .point ≢ 0 → Placed (has r) call × (call .point ≤ last r)
-  placed-of (open-yet point finish) some = absurd (some point)
+  placed-of (open-yet point finish none) some = absurd (some point)
   placed-of (pointed point low high later placed) some = (placed, high)
 
   -- two calls that act at one time have no point at all
@@ -104,14 +113,14 @@ module _ (r : Schedule) where
   empty key = absent-of r 0 key (λ i. none i (i .chain))
     where
       fresh : FreshState (state r 0)
-      fresh = fresh-state (r .workers) (r .nodes) (r .good)
+      fresh = r .fresh
 
       none : (i : In (state r 0) key) → Reach (state r 0 .next) 0 (i .node) → ⊥
       none i (here e) = i .not-head (sym e)
       none i (on run) = i .not-tail (stuck (fresh .tail-next) (fresh .head-next) run)
 
   -- all of demand 3, of one schedule
-  proved : Linearizable (r .workers) (r .nodes) (r .entries)
+  pub proved : Linearizable (r .initial) (r .entries)
   proved =
       let whole = simulated (has r) (last r) (in-order-of r) empty ordered
       (each-of _ (λ call m. placed-of (told-of (of-order m .0)) (has-point call (of-order m .1)) .0))
@@ -120,30 +129,48 @@ module _ (r : Schedule) where
         same-answers = whole .0;
         started-before = λ call m. started (told-of m);
         reached-before = λ call m. reached (told-of m);
+        answered-there = λ call m. answers (told-of m);
+        told-answer = λ call m. tells-of m;
         same-keys = rising-same _ _ (whole .1) (set-rises (arena r (last r))) (whole .2);
       }
     where
       started : {call : Call} → Told r call → call .point ≢ 0 → call .start ≤ call .point
-      started (open-yet point finish) some = absurd (some point)
+      started (open-yet point finish none) some = absurd (some point)
       started (pointed point low high later placed) some = low
 
       reached : {call : Call} → Told r call → call .finish ≢ 0 → (call .point ≢ 0) × (call .point < call .finish)
-      reached (open-yet point finish) some = absurd (some finish)
+      reached (open-yet point finish none) some = absurd (some finish)
       reached (pointed point low high later placed) some = (point, ⊎-elim (λ none. absurd (some none)) (λ before. before) later)
 
--- every list of entries from a fresh arena is linearizable
-pub linearizable : (workers nodes : ℕ) (entries : List Entry) → goodCounts workers nodes ≡ true → Linearizable workers nodes entries
-linearizable workers nodes entries good = proved (record { workers = workers; nodes = nodes; entries = entries; good = good })
+      answers : {call : Call} → Told r call → (call .answer ≡ 0) ↔ (call .point ≡ 0)
+      answers (open-yet point finish none) = (λ _. point, λ _. none)
+      answers (pointed point low high later placed) = (λ none. absurd (placed-answer placed none), λ none. absurd (point none))
 
--- and no turn of it meets 6 or 7
-pub unbroken : (workers nodes : ℕ) (entries : List Entry) → goodCounts workers nodes ≡ true → Unbroken workers nodes entries
-unfolding eventAt
-unbroken workers nodes entries good time turning =
-    let r : Schedule = record { workers = workers; nodes = nodes; entries = entries; good = good } in
-    go (entered-at r (time - 1) (entryAt workers nodes entries time) (always r (time - 1)))
-  where
-    go : Entered workers nodes (arenaAt workers nodes entries (time - 1)) (entryAt workers nodes entries time) →
-        (eventAt workers nodes entries time ≢ entryRefused brokenRecord) × (eventAt workers nodes entries time ≢ entryRefused brokenChain)
-    go (refuses number event same unknown) = rw event (other-number (unknown turning))
-    go (starts event starting known idle call next) = absurd (true≢false (sym turning ∙ starting))
-    go (turns event turned known next) = rw event (not-refused _ _, not-refused _ _)
+  -- no turn meets 6 or 7
+  pub unmet : Unbroken (r .initial) (r .entries)
+  unfolding eventAt
+  unmet time turning = go (entered-at r (time - 1) (entryAt (r .entries) time) (always r (time - 1)))
+    where
+      go : Entered (r .workers) (r .nodes) (arena r (time - 1)) (entryAt (r .entries) time) →
+          (eventAt (r .initial) (r .entries) time ≢ entryRefused brokenRecord) × (eventAt (r .initial) (r .entries) time ≢ entryRefused brokenChain)
+      go (refuses number event same unknown) = rw event (other-number (unknown turning))
+      go (starts event starting known idle call next) = absurd (true≢false (sym turning ∙ starting))
+      go (turns event turned known next) = rw event (not-refused _ _, not-refused _ _)
+
+  -- at every time the chain is whole, and the set is that of document 01's words
+  pub sets-exact : ExactSets (r .initial) (r .entries)
+  sets-exact time =
+      let unbroken-chain = whole (sound r time) (always r time) in (unbroken-chain, set-members (arena r time) unbroken-chain)
+
+-- every list of entries from a fresh arena is linearizable
+pub linearizable : (workers nodes : ℕ) (entries : List Entry) → goodCounts workers nodes ≡ true →
+    Linearizable (freshWords workers nodes) entries
+linearizable workers nodes entries good = proved (freshSchedule workers nodes entries good)
+
+-- no turn of it meets 6 or 7
+pub unbroken : (workers nodes : ℕ) (entries : List Entry) → goodCounts workers nodes ≡ true → Unbroken (freshWords workers nodes) entries
+unbroken workers nodes entries good = unmet (freshSchedule workers nodes entries good)
+
+-- and at every time its chain is whole, and its set is that of document 01's words
+pub exact-sets : (workers nodes : ℕ) (entries : List Entry) → goodCounts workers nodes ≡ true → ExactSets (freshWords workers nodes) entries
+exact-sets workers nodes entries good = sets-exact (freshSchedule workers nodes entries good)

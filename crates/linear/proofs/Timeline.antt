@@ -12,6 +12,7 @@ use Rattle.worker.specs.declared.report.Report.{Report}
 use Rattle.worker.specs.declared.report.Step.{Step}
 use Rattle.worker.proofs.TurnLaws.{step-row}
 use Rattle.arena.specs.Layout.{goodCounts}
+use Rattle.arena.specs.Init.{freshWords}
 use Rattle.arena.specs.Records.{workerAt}
 use Rattle.arena.proofs.Bounds.{counts}
 use Rattle.linear.specs.Lists.{member}
@@ -21,7 +22,7 @@ use Rattle.linear.specs.History.{Call, entryAt, arenaAt, eventAt, decide
 use Rattle.linear.specs.Order.{inOrder}
 use Rattle.linear.proofs.State.{State, decode, stepped, startStep, turnStep}
 use Rattle.linear.proofs.Bridge.{Sound, Entered, refuses, starts, turns, entered, after-sound}
-use Rattle.linear.proofs.FreshState.{fresh-sound, fresh-state}
+use Rattle.linear.proofs.FreshState.{FreshState, fresh-sound, fresh-state}
 use Rattle.linear.proofs.Invariant.{Inv}
 use Rattle.linear.proofs.Course.{Row}
 use Rattle.linear.proofs.Preserved.{row-inv, turn-row, start-inv}
@@ -29,17 +30,33 @@ use Rattle.linear.proofs.Passes.{passes, stage-below}
 use Rattle.linear.proofs.FreeNodes.{free-not-live}
 use Rattle.linear.proofs.FreshInvariant.{fresh-inv}
 
--- a list of entries from a fresh arena
+-- a list of entries from an arena that is fresh, as far as it is read
 pub record Schedule : Type 0 where
   pub workers : ℕ
   pub nodes : ℕ
+  pub initial : List ℕ
   pub entries : List Entry
   pub good : goodCounts workers nodes ≡ true
+  pub in-order : Sound workers nodes initial
+  pub fresh : FreshState (decode initial)
+
+-- from a fresh arena of just its total
+abbrev pub freshSchedule : (workers nodes : ℕ) (entries : List Entry) → goodCounts workers nodes ≡ true → Schedule
+freshSchedule workers nodes entries good =
+    record {
+      workers = workers;
+      nodes = nodes;
+      initial = freshWords workers nodes;
+      entries = entries;
+      good = good;
+      in-order = fresh-sound workers nodes good;
+      fresh = fresh-state workers nodes good;
+    }
 
 module _ (r : Schedule) where
   -- of such a list: the arena and the state at a time, whether a key is in the set, the last time
   abbrev pub arena : ℕ → List ℕ
-  arena time = arenaAt (r .workers) (r .nodes) (r .entries) time
+  arena time = arenaAt (r .initial) (r .entries) time
 
   abbrev pub state : ℕ → State
   state time = decode (arena time)
@@ -52,29 +69,29 @@ module _ (r : Schedule) where
 
   -- the entry that leads from a time to the next, and what it comes to
   abbrev pub entry : ℕ → Entry
-  entry time = entryAt (r .workers) (r .nodes) (r .entries) (suc time)
+  entry time = entryAt (r .entries) (suc time)
 
   abbrev pub outcome : ℕ → Event
-  outcome time = eventAt (r .workers) (r .nodes) (r .entries) (suc time)
+  outcome time = eventAt (r .initial) (r .entries) (suc time)
 
   -- the turns of a worker that decide, and that finish; the starts; the calls, and those in order
   abbrev pub decisive : ℕ → ℕ → Bool
-  decisive v time = decidesAt (r .workers) (r .nodes) (r .entries) v time
+  decisive v time = decidesAt (r .initial) (r .entries) v time
 
   abbrev pub finishing : ℕ → ℕ → Bool
-  finishing v time = finishesAt (r .workers) (r .nodes) (r .entries) v time
+  finishing v time = finishesAt (r .initial) (r .entries) v time
 
   abbrev pub starts-at : ℕ → Bool
-  starts-at time = startsAt (r .workers) (r .nodes) (r .entries) time
+  starts-at time = startsAt (r .initial) (r .entries) time
 
   abbrev pub call-at : ℕ → Call
-  call-at time = callAt (r .workers) (r .nodes) (r .entries) time
+  call-at time = callAt (r .initial) (r .entries) time
 
   abbrev pub calls-of : List Call
-  calls-of = calls (r .workers) (r .nodes) (r .entries)
+  calls-of = calls (r .initial) (r .entries)
 
   abbrev pub in-order-of : List Call
-  in-order-of = inOrder (r .workers) (r .nodes) (r .entries)
+  in-order-of = inOrder (r .initial) (r .entries)
 
   -- what happens between a time and the next: nothing, a start on an idle worker, or a turn
   pub data Happens (time : ℕ) : Type 0 where
@@ -90,7 +107,7 @@ module _ (r : Schedule) where
   -- the header stays in order
   pub sound : (time : ℕ) → Sound (r .workers) (r .nodes) (arena time)
   unfolding arenaAt
-  sound zero = fresh-sound (r .workers) (r .nodes) (r .good)
+  sound zero = r .in-order
   sound (suc time) = after-sound (sound time) (entry time)
 
   -- past the last worker there are idle records
@@ -132,7 +149,7 @@ module _ (r : Schedule) where
   unfolding arenaAt
   always zero =
       let few = counts (r .workers) (r .nodes) (r .good) in
-      fresh-inv (omega (arith, few)) (omega (arith, few)) (fresh-state (r .workers) (r .nodes) (r .good))
+      fresh-inv (omega (arith, few)) (omega (arith, few)) (r .fresh)
   always (suc time) = inv-next time (always time) (happening time (always time) (entered-at time (entry time) (always time)))
 
   pub happens : (time : ℕ) → Happens time

@@ -17,7 +17,7 @@ use Rattle.worker.specs.declared.report.Effect.{Effect}
 use Rattle.worker.specs.declared.report.Effect.the-variants.{SetOwner}
 use Rattle.worker.proofs.Laws.{range-bounds, in-range}
 use Rattle.linear.specs.Entries.{isFinished, turnReported}
-use Rattle.linear.specs.History.{decides}
+use Rattle.linear.specs.History.{isDecision}
 use Rattle.linear.proofs.State.{State, stepped}
 use Rattle.linear.proofs.Promises.{Holds, in-pred, in-curr, in-spare, promiseAt, sane}
 use Rattle.linear.proofs.Invariant.{Ahead, Inv, Range, key-range, sane-at}
@@ -98,7 +98,8 @@ module _ {nodes : ℕ} {s : State} (inv : Inv nodes s) (me : ℕ) where
   pub goes-row : {n : ℕ} → w .stage ≡ n → (new : Worker) (report : Report) {e : Effect} (act : Act nodes s me e) → Keeps act →
       Places nodes s me (record { worker = new; report = report; effect = e }) →
       Promised (record { worker = new; report = report; effect = e }) → Sane new →
-      Continues w new → new .answer ≡ w .answer → decides n (w .answer) ≡ false → isFinished (turnReported report) ≡ false →
+      Continues w new → eqb (new .answer) 0 ≡ eqb (w .answer) 0 → isDecision n (new .answer) ≡ false →
+      isFinished (turnReported report) ≡ false →
       (22 ≤ new .stage → (22 ≤ n) × (Ahead s (cond (eqb n 22) 0 (w .curr)) (w .key) → Ahead s (spot new) (w .key))) →
       Row nodes s me (record { worker = new; report = report; effect = e })
   goes-row at new report act keeps placed promise good continues same silent unfinished onward =
@@ -107,7 +108,7 @@ module _ {nodes : ℕ} {s : State} (inv : Inv nodes s) (me : ℕ) where
         placed = placed;
         standing = record { promise = promise; sane-record = λ busy. good };
         course =
-            goes-on keeps continues same (rw (same, at) silent) unfinished
+            goes-on keeps continues same (rw at silent) unfinished
             (λ later.
             subst (λ k. (22 ≤ k) × (Ahead s (cond (eqb k 22) 0 (w .curr)) (w .key) → Ahead s (spot new) (w .key))) (sym at) (onward later));
       }
@@ -115,7 +116,7 @@ module _ {nodes : ℕ} {s : State} (inv : Inv nodes s) (me : ℕ) where
   -- a turn that goes to a stage, where pred, curr and spare are p, c and q then
   moves : {n : ℕ} → w .stage ≡ n → (m p c q : ℕ) {e : Effect} (act : Act nodes s me e) → Keeps act → ((k : ℕ) → Fills e k → ⊥) →
       Known nodes s me p → Known nodes s me c → Known nodes s me q →
-      Promised (goes (changed w m p c q (w .answer)) m e) → Sane (changed w m p c q (w .answer)) → m ≢ 0 → decides n (w .answer) ≡ false →
+      Promised (goes (changed w m p c q (w .answer)) m e) → Sane (changed w m p c q (w .answer)) → m ≢ 0 → isDecision n (w .answer) ≡ false →
       (22 ≤ m → (22 ≤ n) × (Ahead s (cond (eqb n 22) 0 (w .curr)) (w .key) → Ahead s (cond (eqb m 22) 0 c) (w .key))) →
       Row nodes s me (goes (changed w m p c q (w .answer)) m e)
   moves at m p c q act keeps unfilled kp kc kq promise good busy silent onward =
@@ -125,7 +126,7 @@ module _ {nodes : ℕ} {s : State} (inv : Inv nodes s) (me : ℕ) where
   -- the same below 22, so that no look-up is concerned
   pub searches : {n : ℕ} → w .stage ≡ n → (m p c q : ℕ) → within 1 21 m ≡ true → {e : Effect} (act : Act nodes s me e) → Keeps act →
       ((k : ℕ) → Fills e k → ⊥) → Known nodes s me p → Known nodes s me c → Known nodes s me q →
-      Promised (goes (changed w m p c q (w .answer)) m e) → Sane (changed w m p c q (w .answer)) → decides n (w .answer) ≡ false →
+      Promised (goes (changed w m p c q (w .answer)) m e) → Sane (changed w m p c q (w .answer)) → isDecision n (w .answer) ≡ false →
       Row nodes s me (goes (changed w m p c q (w .answer)) m e)
   searches at m p c q early act keeps unfilled kp kc kq promise good silent =
       let bounds = range-bounds 1 21 m early in
@@ -134,19 +135,19 @@ module _ {nodes : ℕ} {s : State} (inv : Inv nodes s) (me : ℕ) where
   -- and nothing is written
   pub walks : {n : ℕ} → w .stage ≡ n → n ≢ 15 → (m p c q : ℕ) → within 1 21 m ≡ true → Known nodes s me p → Known nodes s me c →
       Known nodes s me q →
-      Promised (to (changed w m p c q (w .answer)) m) → Sane (changed w m p c q (w .answer)) → decides n (w .answer) ≡ false →
+      Promised (to (changed w m p c q (w .answer)) m) → Sane (changed w m p c q (w .answer)) → isDecision n (w .answer) ≡ false →
       Row nodes s me (to (changed w m p c q (w .answer)) m)
   walks at off m p c q early = searches at m p c q early (quiet (λ e. off (sym at ∙ e))) tt (λ k f. f)
 
   -- with pred, curr and spare as they were
   pub finds-out : {n : ℕ} → w .stage ≡ n → n ≢ 15 → (m : ℕ) → within 1 21 m ≡ true → Promised (to w m) → Sane (withStage w m) →
-      decides n (w .answer) ≡ false → Row nodes s me (to w m)
+      isDecision n (w .answer) ≡ false → Row nodes s me (to w m)
   finds-out at off m early promise good silent =
       walks at off m (w .pred) (w .curr) (w .spare) early pred-known curr-known spare-known promise good silent
 
   -- a turn that waits changes nothing
   pub waits : {n : ℕ} → w .stage ≡ n → within 1 14 n ≡ true →
-      promiseAt n nodes (stepped s me (reports w Waits)) me (w .key) (w .pred) (w .curr) (w .spare) → decides n (w .answer) ≡ false →
+      promiseAt n nodes (stepped s me (reports w Waits)) me (w .key) (w .pred) (w .curr) (w .spare) → isDecision n (w .answer) ≡ false →
       Row nodes s me (reports w Waits)
   waits {n} at early promise silent =
       let bounds = range-bounds 1 14 n early in
@@ -158,7 +159,7 @@ module _ {nodes : ℕ} {s : State} (inv : Inv nodes s) (me : ℕ) where
   -- a lock is taken or given up, with pred, curr and spare as they were
   pub owns-row : {n : ℕ} → w .stage ≡ n → n ≢ 15 → (m node owner : ℕ) → within 1 21 m ≡ true →
       (s .owner node ≡ 0) ⊎ (s .owner node ≡ suc me) →
-      Promised (goes w m (SetOwner node owner)) → Sane (withStage w m) → decides n (w .answer) ≡ false →
+      Promised (goes w m (SetOwner node owner)) → Sane (withStage w m) → isDecision n (w .answer) ≡ false →
       Row nodes s me (goes w m (SetOwner node owner))
   owns-row at off m node owner early may promise good silent =
       searches at m (w .pred) (w .curr) (w .spare) early (owns (λ e. off (sym at ∙ e)) may) tt
@@ -166,7 +167,7 @@ module _ {nodes : ℕ} {s : State} (inv : Inv nodes s) (me : ℕ) where
 
   -- a look-up goes on, to another node or not
   pub looks-on : {n : ℕ} → w .stage ≡ n → n ≢ 15 → (m c : ℕ) → m ≢ 0 → Known nodes s me c →
-      Promised (to (withCurr w c) m) → Sane (withStage w m) → decides n (w .answer) ≡ false → 22 ≤ n →
+      Promised (to (withCurr w c) m) → Sane (withStage w m) → isDecision n (w .answer) ≡ false → 22 ≤ n →
       (Ahead s (cond (eqb n 22) 0 (w .curr)) (w .key) → Ahead s (cond (eqb m 22) 0 c) (w .key)) →
       Row nodes s me (to (withCurr w c) m)
   looks-on at off m c busy kc promise good silent looks onward =
@@ -177,7 +178,7 @@ module _ {nodes : ℕ} {s : State} (inv : Inv nodes s) (me : ℕ) where
   pub settles-row : {n : ℕ} → w .stage ≡ n → (m answer : ℕ) {e : Effect} (act : Act nodes s me e) → ((k : ℕ) → Fills e k → ⊥) →
       Promised (goes (withAnswer w answer) m e) → Sane (withStage (withAnswer w answer) m) →
       Verdict act (withStage (withAnswer w answer) m) → within 1 21 m ≡ true →
-      w .answer ≡ 0 → answer ≢ 0 → decides n answer ≡ true → Row nodes s me (goes (withAnswer w answer) m e)
+      w .answer ≡ 0 → answer ≢ 0 → isDecision n answer ≡ true → Row nodes s me (goes (withAnswer w answer) m e)
   settles-row at m answer act unfilled promise good verdict early undecided decided settled =
       let bounds = range-bounds 1 21 m early in
       record {
@@ -186,5 +187,5 @@ module _ {nodes : ℕ} {s : State} (inv : Inv nodes s) (me : ℕ) where
         standing = record { promise = promise; sane-record = λ busy. good };
         course =
             settles verdict (record { busy = omega arith; operation = refl; key = refl }) undecided decided
-            (subst (λ k. decides k answer ≡ true) (sym at) settled) refl;
+            (subst (λ k. isDecision k answer ≡ true) (sym at) settled) refl;
       }

@@ -7,7 +7,6 @@ use lib.Dec.{eqb}
 use Rattle.worker.specs.Worker.{contains, within}
 use Rattle.worker.specs.Report.{answerNumber}
 use Rattle.worker.specs.declared.report.Answer.the-variants.{No, Full}
-use Rattle.arena.specs.Init.{freshWords}
 use Rattle.arena.specs.Records.{workerAt}
 use Rattle.linear.specs.Lists.{filter, member, timesFrom, first}
 use Rattle.linear.specs.Sets.{setOf}
@@ -32,8 +31,8 @@ pub record Totals : Type 0 where
   pub calls : ℕ
 
 -- the turns that decide an answer, by stage and the answer that is kept then: 13 with no, 14 with full, 15, 16, 23 with no, 25
-unfoldable pub decides : ℕ → ℕ → Bool
-decides stage answer =
+unfoldable pub isDecision : ℕ → ℕ → Bool
+isDecision stage answer =
     (eqb stage 13 && eqb answer (answerNumber No))
     || (eqb stage 14 && eqb answer (answerNumber Full))
     || within 15 16 stage
@@ -44,33 +43,34 @@ decides stage answer =
 abbrev pub isLate : ℕ → ℕ → Bool
 isLate operation answer = eqb operation contains && eqb answer (answerNumber No)
 
-module _ (workers nodes : ℕ) (entries : List Entry) where
-  -- entries are counted from 1
-  unfoldable pub entryAt : ℕ → Entry
-  entryAt time = getD entries (time - 1) (record { worker = 0; act = 0; key = 0 })
+-- entries are counted from 1
+unfoldable pub entryAt : List Entry → ℕ → Entry
+entryAt entries time = getD entries (time - 1) (record { worker = 0; act = 0; key = 0 })
 
-  -- time k (document 01: moment k) is the arena after entry k; time 0 is the fresh arena
+-- a list of entries, and the arena that its first one gets
+module _ (initial : List ℕ) (entries : List Entry) where
+  -- time k (document 01: moment k) is the arena after entry k
   unfoldable pub arenaAt : ℕ → List ℕ
-  arenaAt zero = freshWords workers nodes
-  arenaAt (suc time) = after (arenaAt time) (entryAt (suc time))
+  arenaAt zero = initial
+  arenaAt (suc time) = after (arenaAt time) (entryAt entries (suc time))
 
   -- what entry k comes to, on the arena as the last one left it
   unfoldable pub eventAt : ℕ → Event
-  eventAt time = eventOf (arenaAt (time - 1)) (entryAt time)
+  eventAt time = eventOf (arenaAt (time - 1)) (entryAt entries time)
 
   abbrev pub startsAt : ℕ → Bool
   startsAt time = isStarted (eventAt time)
 
   -- entry k is a turn of the worker that reports finished
   unfoldable pub finishesAt : ℕ → ℕ → Bool
-  finishesAt worker time = isFinished (eventAt time) && eqb (entryAt time .worker) worker
+  finishesAt worker time = isFinished (eventAt time) && eqb (entryAt entries time .worker) worker
 
   -- entry k is a turn of the worker that decides its call's answer
   unfoldable pub decidesAt : ℕ → ℕ → Bool
   decidesAt worker time =
       isReported (eventAt time)
-      && eqb (entryAt time .worker) worker
-      && decides (workerAt (arenaAt (time - 1)) worker .stage) (workerAt (arenaAt time) worker .answer)
+      && eqb (entryAt entries time .worker) worker
+      && isDecision (workerAt (arenaAt (time - 1)) worker .stage) (workerAt (arenaAt time) worker .answer)
 
   -- at time k the key is not in the set
   unfoldable pub absentAt : ℕ → ℕ → Bool
@@ -98,7 +98,7 @@ module _ (workers nodes : ℕ) (entries : List Entry) where
   -- the call that starts at a time
   unfoldable pub callAt : ℕ → Call
   callAt start =
-      let entry = entryAt start in
+      let entry = entryAt entries start in
       let finish = finishOf (entry .worker) start in
       let decision = decisionOf (entry .worker) start finish in
       let answer = answerOf (entry .worker) decision in

@@ -6,3 +6,4 @@ pub mod History
 pub mod Order
 pub mod Sequential
 pub mod Linearizable
+pub mod Lent

@@ -1,33 +1,57 @@
 -- Demand 3, one field for each of its sentences.
 use Prim.Native.Nat.{ℕ, _≤_, _<_}
 use mathlib.Core.Path.{_≡_}
-use mathlib.Core.Logic.{_≢_}
+use mathlib.Core.Logic.{_≢_, _↔_}
 use mathlib.Core.List.{List, [], List·Memᴰ, map}
 use mathlib.Core.Bool.{true}
 use lib.ListN.{length}
 use Rattle.worker.specs.Refusals.{brokenRecord, brokenChain}
-use Rattle.linear.specs.Sets.{setOf}
-use Rattle.linear.specs.Entries.{Entry, isTurn, entryRefused}
+use Rattle.worker.specs.Report.{answerNumber}
+use Rattle.worker.specs.declared.report.Answer.{Answer}
+use Rattle.worker.specs.declared.report.Report.the-variants.{Finished}
+use Rattle.linear.specs.Lists.{member}
+use Rattle.linear.specs.Sets.{ChainWhole, setOf, InSet}
+use Rattle.linear.specs.Entries.{Entry, isTurn, turnReported, entryRefused}
 use Rattle.linear.specs.History.{Call, entryAt, arenaAt, eventAt, calls}
 use Rattle.linear.specs.Order.{inOrder}
 use Rattle.linear.specs.Sequential.{answersTo, keysAfter}
 
-module _ (workers nodes : ℕ) (entries : List Entry) where
+-- a list of entries, and the arena that its first one gets
+module _ (initial : List ℕ) (entries : List Entry) where
+  -- entry k is a turn of the worker, and reports finished with the answer of this number
+  pub record Tells (worker number time : ℕ) : Type 0 where
+    pub answer : Answer
+    pub own : entryAt entries time .worker ≡ worker
+    pub event : eventAt initial entries time ≡ turnReported (Finished answer)
+    pub numbered : answerNumber answer ≡ number
+
   pub record Linearizable : Type 0 where
     -- the calls that have reached their points, taken whole and one after another by the sequential set, have the same answers there as
-    -- turn by turn; it answers full only for an absent key, and then changes nothing (`replyTo`)
+    -- turn by turn; it answers full only for an absent key, and then changes nothing (`responseTo`)
     pub same-answers :
-        answersTo [] (inOrder workers nodes entries) ≡ map (λ (call : Call). call .answer) (inOrder workers nodes entries)
+        answersTo [] (inOrder initial entries) ≡ map (λ (call : Call). call .answer) (inOrder initial entries)
     -- no call's point is before its start
-    pub started-before : (call : Call) → List·Memᴰ call (calls workers nodes entries) → call .point ≢ 0 → call .start ≤ call .point
+    pub started-before : (call : Call) → List·Memᴰ call (calls initial entries) → call .point ≢ 0 → call .start ≤ call .point
     -- every finished call has reached its point before its finish
-    pub reached-before : (call : Call) → List·Memᴰ call (calls workers nodes entries) → call .finish ≢ 0 →
+    pub reached-before : (call : Call) → List·Memᴰ call (calls initial entries) → call .finish ≢ 0 →
         (call .point ≢ 0) × (call .point < call .finish)
+    -- 0 stands for the answer of a call without a point, and of no other
+    pub answered-there : (call : Call) → List·Memᴰ call (calls initial entries) → (call .answer ≡ 0) ↔ (call .point ≡ 0)
+    -- a call's answer is the one that its worker reports at its finish
+    pub told-answer : (call : Call) → List·Memᴰ call (calls initial entries) → call .finish ≢ 0 →
+        Tells (call .worker) (call .answer) (call .finish)
     -- the sequential set holds exactly the arena's set
-    pub same-keys : keysAfter [] (inOrder workers nodes entries) ≡ setOf (arenaAt workers nodes entries (length entries))
+    pub same-keys : keysAfter [] (inOrder initial entries) ≡ setOf (arenaAt initial entries (length entries))
 
   -- beside it: no turn from a fresh arena meets 6 or 7
   abbrev pub Unbroken : Type 0
   Unbroken =
-      (time : ℕ) → isTurn (entryAt workers nodes entries time) ≡ true →
-      (eventAt workers nodes entries time ≢ entryRefused brokenRecord) × (eventAt workers nodes entries time ≢ entryRefused brokenChain)
+      (time : ℕ) → isTurn (entryAt entries time) ≡ true →
+      (eventAt initial entries time ≢ entryRefused brokenRecord) × (eventAt initial entries time ≢ entryRefused brokenChain)
+
+  -- and at every time the chain is whole, and the keys of the set are those of document 01's words
+  abbrev pub ExactSets : Type 0
+  ExactSets =
+      (time : ℕ) →
+      ChainWhole (arenaAt initial entries time)
+      × ((key : ℕ) → (member key (setOf (arenaAt initial entries time)) ≡ true) ↔ InSet (arenaAt initial entries time) key)

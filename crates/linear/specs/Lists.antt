@@ -1,5 +1,5 @@
--- Lists: those that pass a test, keys that are in a list, and the first time at which a test holds.
-use Prim.Native.Nat.{ℕ, zero, suc}
+-- Lists: those that pass a test, keys that are in a list, the first time at which a test holds, and lists in which every two are related.
+use Prim.Native.Nat.{ℕ, zero, suc, _<_}
 use mathlib.Core.List.{List, [], _∷_}
 use mathlib.Core.Bool.{Bool, false, cond, _||_}
 use lib.Dec.{eqb}
@@ -21,3 +21,19 @@ timesFrom time (suc left) = time ∷ timesFrom (suc time) left
 unfoldable pub first : (ℕ → Bool) → ℕ → ℕ → ℕ
 first test time zero = 0
 first test time (suc left) = let onward = first test (suc time) left in cond (test time) time onward
+
+-- what holds of every element of a list
+infixr 5 _and_
+pub data Each {A : Type 0} (P : A → Type 0) : List A → Type 0 where
+  none : Each P []
+  _and_ : {x : A} {xs : List A} → P x → Each P xs → Each P (x ∷ xs)
+
+-- a relation between every element of a list and each later one
+infixr 5 _ahead_
+pub data Pairs {A : Type 0} (R : A → A → Type 0) : List A → Type 0 where
+  alone : Pairs R []
+  _ahead_ : {x : A} {xs : List A} → Each (R x) xs → Pairs R xs → Pairs R (x ∷ xs)
+
+-- keys rise
+abbrev pub Rising : List ℕ → Type 0
+Rising = Pairs (λ a b. a < b)

@@ -1,9 +1,11 @@
 -- The order of the calls that have a point (document 01: in the order of their points, within one moment as above).
-use Prim.Native.Nat.{ℕ, suc}
-use mathlib.Core.List.{List, [], _∷_}
+use Prim.Native.Nat.{ℕ, suc, _≤_, _<_}
+use mathlib.Core.Path.{_≡_}
+use mathlib.Core.Logic.{_⊎_}
+use mathlib.Core.List.{List, [], _∷_, List·Permᴰ}
 use mathlib.Core.Bool.{Bool, cond, not, _&&_, _||_}
 use lib.Dec.{leb, ltb, eqb}
-use Rattle.linear.specs.Lists.{filter}
+use Rattle.linear.specs.Lists.{filter, Pairs}
 use Rattle.linear.specs.Entries.{Entry}
 use Rattle.linear.specs.History.{Call, isLate, calls}
 
@@ -15,6 +17,10 @@ abbrev pub rank : Call → ℕ
 rank call = cond (isLate (call .operation) (call .answer)) (suc (call .worker)) 0
 
 -- by point, and within one time by rank
+abbrev pub Before : Call → Call → Type 0
+Before a b = (a .point < b .point) ⊎ ((a .point ≡ b .point) × (rank a ≤ rank b))
+
+-- tested
 unfoldable pub goesBefore : Call → Call → Bool
 goesBefore a b = ltb (a .point) (b .point) || (eqb (a .point) (b .point) && leb (rank a) (rank b))
 
@@ -28,5 +34,10 @@ sorted [] = []
 sorted (call ∷ others) = inserted call (sorted others)
 
 -- calls without a point are left out
-unfoldable pub inOrder : ℕ → ℕ → List Entry → List Call
-inOrder workers nodes entries = sorted (filter hasPoint (calls workers nodes entries))
+unfoldable pub inOrder : List ℕ → List Entry → List Call
+inOrder initial entries = sorted (filter hasPoint (calls initial entries))
+
+-- that it is the order (`OrderLaws.ordered`): no call with a point is left out or counted twice, and each is before the later ones
+pub record Ordered (initial : List ℕ) (entries : List Entry) : Type 0 where
+  pub same-calls : List·Permᴰ (inOrder initial entries) (filter hasPoint (calls initial entries))
+  pub by-point : Pairs Before (inOrder initial entries)

@@ -39,7 +39,7 @@ module _ (r : Schedule) where
   starts now = passing (starts-at r) now
 
   abbrev pub counted : (Event → Bool) → ℕ → ℕ
-  counted test now = length (passing (λ time. test (eventAt (r .workers) (r .nodes) (r .entries) time)) now)
+  counted test now = length (passing (λ time. test (eventAt (r .initial) (r .entries) time)) now)
 
   pub record Booked (now : ℕ) (book : Book) : Type 0 where
     pub calls-are : book .calls ≡ length (starts now)

@@ -15,19 +15,19 @@ use Rattle.schedule.proofs.Times.{first-kept, first-same, first-now}
 module _ (r : Schedule) where
   -- a call is known by its start; its entry
   abbrev pub opening : ℕ → Entry
-  opening start = entryAt (r .workers) (r .nodes) (r .entries) start
+  opening start = entryAt (r .entries) start
 
   -- its record, with a finish and a decision
   abbrev pub made : ℕ → ℕ → ℕ → Call
   made start finish decision =
       let v = opening start .worker in
-      let answer = answerOf (r .workers) (r .nodes) (r .entries) v decision in
+      let answer = answerOf (r .initial) (r .entries) v decision in
       record {
         worker = v;
         operation = opening start .act;
         key = opening start .key;
         start = start;
-        point = pointOf (r .workers) (r .nodes) (r .entries) (opening start) start decision answer;
+        point = pointOf (r .initial) (r .entries) (opening start) start decision answer;
         finish = finish;
         answer = answer;
       }

@@ -15,6 +15,7 @@ use Rattle.linear.specs.Lists.{filter}
 use Rattle.linear.specs.History.{totals, calls}
 use Rattle.schedule.specs.declared.Call.{Call}
 use Rattle.schedule.specs.Run.{entryWidth, entriesOf, isOperation, operationsIn, isBadSchedule, runRefusals, runAnswer, runArena, recordOf, recordsOf, callWidth, flatWords}
+use Rattle.arena.specs.Init.{freshWords}
 use Rattle.schedule.proofs.EntryLaws.{entries-count}
 
 neither : (a b : Bool) → (a || b) ≡ false → (a ≡ false) × (b ≡ false)
@@ -98,9 +99,9 @@ module _ (arena : List ℕ) (workers nodes : ℕ) (schedule : List ℕ) (lent : 
 
 -- as many calls are told as there are records
 pub told-calls : (workers nodes : ℕ) (schedule : List ℕ) →
-    totals workers nodes (entriesOf schedule) .calls ≡ length (recordsOf workers nodes schedule)
+    totals (freshWords workers nodes) (entriesOf schedule) .calls ≡ length (recordsOf workers nodes schedule)
 unfolding totals recordsOf
-told-calls workers nodes schedule = sym (length-map (calls workers nodes (entriesOf schedule)) recordOf)
+told-calls workers nodes schedule = sym (length-map (calls (freshWords workers nodes) (entriesOf schedule)) recordOf)
 
 pub flat-length : (records : List Call) → length (flatWords records) ≡ callWidth * length records
 unfolding flatten

@@ -19,7 +19,7 @@ use Rattle.worker.specs.declared.report.Step.{Step}
 use Rattle.arena.specs.Records.{workerAt}
 use Rattle.linear.specs.Lists.{first}
 use Rattle.linear.specs.Entries.{turnReported}
-use Rattle.linear.specs.History.{decides, absentAt}
+use Rattle.linear.specs.History.{isDecision, absentAt}
 use Rattle.linear.proofs.ListLaws.{first-found}
 use Rattle.linear.proofs.State.{State, stepped}
 use Rattle.linear.proofs.After.{own-after}
@@ -75,7 +75,7 @@ module _ (worker : ℕ → Worker) (key time : ℕ) (absent : List ℕ) where
 
 -- no key is taken out by a turn that decides nothing, of another operation than remove, or with another answer than yes
 module _ (before after : Worker) where
-  undecided : decides (before .stage) (after .answer) ≡ false → takesOut before after ≡ false
+  undecided : isDecision (before .stage) (after .answer) ≡ false → takesOut before after ≡ false
   undecided e = rw e
 
   no-remove : before .operation ≢ remove → takesOut before after ≡ false
@@ -84,7 +84,7 @@ module _ (before after : Worker) where
   no-yes : after .answer ≢ answerNumber Yes → takesOut before after ≡ false
   no-yes other = rw (ne-eqb (after .answer) (answerNumber Yes) other, and-false)
 
-  at-stage : {stage : ℕ} → before .stage ≡ stage → decides stage (after .answer) ≡ false → takesOut before after ≡ false
+  at-stage : {stage : ℕ} → before .stage ≡ stage → isDecision stage (after .answer) ≡ false → takesOut before after ≡ false
   at-stage e fails = undecided (rw e fails)
 
 module _ (r : Schedule) where
@@ -96,7 +96,7 @@ module _ (r : Schedule) where
 
   change : (now w : ℕ) (step : Step) (row : Row (r .nodes) (state r now) w step) → state r (suc now) ≡ stepped (state r now) w step →
       Change now (state r now .worker w) (step .worker)
-  unfolding decides
+  unfolding isDecision
   change now w step row next = go (row .course)
     where
       before : Worker
@@ -143,7 +143,7 @@ module _ (r : Schedule) where
 
   -- the first time from a start on, up to now, at which a key is absent
   abbrev pub absentBy : ℕ → ℕ → ℕ → ℕ
-  absentBy key start now = first (absentAt (r .workers) (r .nodes) (r .entries) key) start (suc now - start)
+  absentBy key start now = first (absentAt (r .initial) (r .entries) key) start (suc now - start)
 
   module _ (key start now : ℕ) (some : start ≢ 0) (begun : start ≤ now) where
     more : suc (suc now) - start ≡ suc (suc now - start)
@@ -169,7 +169,7 @@ module _ (r : Schedule) where
     present-now none =
         ⊎-elim
         (λ gone.
-        let found = first-found (absentAt (r .workers) (r .nodes) (r .entries) key) start (suc now - start) {some = now} begun
+        let found = first-found (absentAt (r .initial) (r .entries) key) start (suc now - start) {some = now} begun
         (omega arith) (rw gone) in
         absurd (omega (arith, found .1)))
         (λ there. there) (dichotomy (has r now key))

@@ -14,9 +14,9 @@ use Rattle.worker.specs.Node.{head, tail}
 use Rattle.arena.specs.Layout.{word, nodesOf, nodeWidth, nodePart}
 use Rattle.arena.specs.Records.{nodeAt}
 use Rattle.linear.specs.Lists.{filter, member}
-use Rattle.linear.specs.Sets.{nodeIn, isUnmarked, chainOf, setOf}
+use Rattle.linear.specs.Sets.{nodeIn, isUnmarked, ChainWhole, chainOf, setOf}
 use Rattle.linear.proofs.ListLaws.{from-filter, from-map}
-use Rattle.linear.proofs.SetLaws.{keyOf, nextOf, ChainWhole, Walked, ended, passed, walked-above, whole-walked, from-member}
+use Rattle.linear.proofs.SetLaws.{keyOf, nextOf, Walked, ended, passed, walked-above, whole-walked, from-member}
 
 or-false : (a : Bool) → (a || false) ≡ a
 or-false true = refl

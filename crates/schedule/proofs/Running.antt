@@ -18,7 +18,7 @@ use Rattle.linear.specs.Lists.{filter, timesFrom}
 use Rattle.linear.specs.Entries.{Entry, isStarted, isRefused, isWaits, after}
 use Rattle.linear.specs.History.{entryAt, arenaAt, eventAt, callAt, calls, totals}
 use Rattle.linear.proofs.Members.{whole}
-use Rattle.linear.proofs.Timeline.{Schedule, Happens, nothing, start, turn, happens, arena, entry, starts-at, sound, always, last}
+use Rattle.linear.proofs.Timeline.{freshSchedule, Schedule, Happens, nothing, start, turn, happens, arena, entry, starts-at, sound, always, last}
 use Rattle.schedule.specs.declared.book.Book.{Book}
 use Rattle.schedule.specs.Run.{entryWidth, entryOf, entriesOf, isOperation, operationsIn, recordOf, recordsOf, totalsOf, callWidth, flatWords}
 use Rattle.schedule.specs.Book.{newBook, isBroken, Roomy, bookAfter, wordsAfter}
@@ -106,13 +106,13 @@ module _ (r : Schedule) where
 
 module _ (workers nodes : ℕ) (schedule lent : List ℕ) where
   abbrev run : goodCounts workers nodes ≡ true → Schedule
-  run good = record { workers = workers; nodes = nodes; entries = entriesOf schedule; good = good }
+  run good = freshSchedule workers nodes (entriesOf schedule) good
 
   -- what holds between two entries
   pub record Running (done : ℕ) (book : Book) (words history : List ℕ) : Type 0 where
     pub good : goodCounts workers nodes ≡ true
     pub past : done ≤ length (entriesOf schedule)
-    pub arena-is : words ≡ arenaAt workers nodes (entriesOf schedule) done
+    pub arena-is : words ≡ arenaAt (freshWords workers nodes) (entriesOf schedule) done
     pub booked : Booked (run good) done book
     pub history-is : history ≡ held (run good) lent done
 
@@ -154,8 +154,8 @@ module _ (workers nodes : ℕ) (schedule lent : List ℕ) where
       roomy : length (entriesOf schedule) ≤ 4000 → Roomy book
       roomy few =
           let calls = passing-few (starts-at r) done in
-          let refusals = passing-few (λ time. isRefused (eventAt workers nodes (entriesOf schedule) time)) done in
-          let waits = passing-few (λ time. isWaits (eventAt workers nodes (entriesOf schedule) time)) done in (
+          let refusals = passing-few (λ time. isRefused (eventAt (freshWords workers nodes) (entriesOf schedule) time)) done in
+          let waits = passing-few (λ time. isWaits (eventAt (freshWords workers nodes) (entriesOf schedule) time)) done in (
             omega (arith, now .booked .calls-are),
             omega (arith, now .booked .refused-are),
             omega (arith, now .booked .waits-are),
@@ -220,15 +220,15 @@ module _ (workers nodes : ℕ) (schedule lent : List ℕ) where
 
         same : map (recordBy r (last r)) (starts r (last r)) ≡ recordsOf workers nodes schedule
         same =
-            map-same (recordBy r (last r)) (λ x. recordOf (callAt workers nodes (entriesOf schedule) x)) (starts r (last r))
+            map-same (recordBy r (last r)) (λ x. recordOf (callAt (freshWords workers nodes) (entriesOf schedule) x)) (starts r (last r))
             (λ x m. ap recordOf (call-last r x))
-            ∙ sym (map-map recordOf (callAt workers nodes (entriesOf schedule)) (starts r (last r)))
+            ∙ sym (map-map recordOf (callAt (freshWords workers nodes) (entriesOf schedule)) (starts r (last r)))
 
         counts : length (recordsOf workers nodes schedule) ≡ length (starts r (last r))
         counts = ap length (sym same) ∙ length-map (starts r (last r)) (recordBy r (last r))
 
     pub totals-end : record { entries = length (entriesOf schedule); refused = book .refused; waits = book .waits; calls = book .calls }
-        ≡ totalsOf (totals workers nodes (entriesOf schedule))
+        ≡ totalsOf (totals (freshWords workers nodes) (entriesOf schedule))
     unfolding totals calls
     totals-end =
         let booked = end .booked in

@@ -10,8 +10,8 @@ use native.Mathlib.Nat.{add-zero}
 use lib.ListN.{length, getD, set, length-append}
 use lib.Dec.{eqb}
 use borrow.Author.Tests.{ne-eqb}
-use Rattle.linear.specs.Lists.{filter, timesFrom, first}
-use Rattle.linear.proofs.ListLaws.{Pairs, _ahead_, each-in}
+use Rattle.linear.specs.Lists.{filter, timesFrom, first, Pairs, _ahead_}
+use Rattle.linear.proofs.ListLaws.{each-in}
 
 -- the first time at which a test holds, with one time more
 module _ (test : ℕ → Bool) where

@@ -16,7 +16,7 @@ use Rattle.worker.specs.declared.report.Report.{Report}
 use Rattle.worker.specs.declared.report.Step.{Step}
 use Rattle.arena.specs.Records.{workerAt}
 use Rattle.linear.specs.Entries.{turnReported, isStarted, isFinished}
-use Rattle.linear.specs.History.{finishesAt, decidesAt, decides, isLate, answerOf, pointOf}
+use Rattle.linear.specs.History.{finishesAt, decidesAt, isDecision, isLate, answerOf, pointOf}
 use Rattle.linear.proofs.ListLaws.{first-none}
 use Rattle.linear.proofs.State.{State, stepped}
 use Rattle.linear.proofs.After.{own-after}
@@ -74,17 +74,17 @@ module _ (r : Schedule) (now : ℕ) (report : Report) (event : outcome r now ≡
 
   pub kind : (step : Step) → report ≡ step .report → Row (r .nodes) (state r now) v step →
       state r (suc now) ≡ stepped (state r now) v step → Kind
-  unfolding decides
+  unfolding isDecision
   kind step same row next = go (row .course)
     where
       known : v < r .workers
       known = turn-known r now event
 
       -- in the states
-      settles-is : book.settles before after ≡ decides (state r now .worker v .stage) (step .worker .answer)
+      settles-is : book.settles before after ≡ isDecision (state r now .worker v .stage) (step .worker .answer)
       settles-is =
-          ap (λ (w : Worker). decides (w .stage) (after .answer)) (sym (own-worker r now v known))
-          ∙ ap (λ (w : Worker). decides (state r now .worker v .stage) (w .answer))
+          ap (λ (w : Worker). isDecision (w .stage) (after .answer)) (sym (own-worker r now v known))
+          ∙ ap (λ (w : Worker). isDecision (state r now .worker v .stage) (w .answer))
           (sym (own-worker r (suc now) v known)
           ∙ ap (λ (s : State). s .worker v) next ∙ own-after (always r now) v (row .act) (row .placed))
 
@@ -94,13 +94,13 @@ module _ (r : Schedule) (now : ℕ) (report : Report) (event : outcome r now ≡
       go : Course (row .act) (step .worker) (step .report) → Kind
       go (rests keeps idle) =
           quiet (sym (ap isFinished event) ∙ idle-unfinished r now idle)
-          (settles-is ∙ ap (λ stage. decides stage (step .worker .answer)) idle)
+          (settles-is ∙ ap (λ stage. isDecision stage (step .worker .answer)) idle)
       go (goes-on keeps continues answer silent unfinished onward) = quiet (finished-is ∙ unfinished) (settles-is ∙ silent)
       go (settles verdict continues none answer settled unfinished) =
           decides-it (not-idle (state r now .worker v .stage) (step .worker .answer) settled) (finished-is ∙ unfinished)
           (settles-is ∙ settled) none
       go (ends keeps stage idle done) =
-          finishes (omega (arith, stage)) (finished-is ∙ done) (settles-is ∙ ap (λ stage. decides stage (step .worker .answer)) stage)
+          finishes (omega (arith, stage)) (finished-is ∙ done) (settles-is ∙ ap (λ stage. isDecision stage (step .worker .answer)) stage)
 
   -- the words of the records at the next time, which are as many
   module _ (lent : List ℕ) where
@@ -155,7 +155,7 @@ module _ (r : Schedule) (now : ℕ) (report : Report) (event : outcome r now ≡
               absurd (true≢false (sym done ∙ at .is-open .unfinished (suc finish) (omega (arith, it .begun)) (omega arith)))
 
       -- its answer and its point
-      answer-is : after .answer ≡ answerOf (r .workers) (r .nodes) (r .entries) (entry r (at .origin) .worker) (suc now)
+      answer-is : after .answer ≡ answerOf (r .initial) (r .entries) (entry r (at .origin) .worker) (suc now)
       unfolding answerOf
       answer-is =
           rw (ne-eqb (suc now) 0 (omega arith)) (ap (λ w. workerAt (arena r (suc now)) w .answer) (sym (at .own)))
@@ -176,7 +176,7 @@ module _ (r : Schedule) (now : ℕ) (report : Report) (event : outcome r now ≡
             (open-next r (at .origin) (at .begun) now (at .is-open) (own-test (finishing r) (finishing-is ∙ unfinished-yet))) asks)
 
         point-is : decisionPoint (before .operation) (after .answer) absent (suc now)
-            ≡ pointOf (r .workers) (r .nodes) (r .entries) (entry r (at .origin)) begin (suc now) (after .answer)
+            ≡ pointOf (r .initial) (r .entries) (entry r (at .origin)) begin (suc now) (after .answer)
         unfolding pointOf
         point-is = rw operation-is (go (isLate (entry r (at .origin) .act) (after .answer)) refl)
           where
@@ -195,7 +195,7 @@ module _ (r : Schedule) (now : ℕ) (report : Report) (event : outcome r now ≡
               operation = entry r (at .origin) .act;
               key = entry r (at .origin) .key;
               start = begin;
-              point = (point-is ∙ ap (pointOf (r .workers) (r .nodes) (r .entries) (entry r (at .origin)) begin (suc now)) answer-is) k;
+              point = (point-is ∙ ap (pointOf (r .initial) (r .entries) (entry r (at .origin)) begin (suc now)) answer-is) k;
               finish = unfinished k;
               answer = answer-is k;
             })

@@ -16,7 +16,7 @@ use Rattle.arena.specs.Snapshot.{chain, isNone}
 use Rattle.linear.specs.Lists.{member}
 use Rattle.linear.specs.Sets.{setOf}
 use Rattle.linear.specs.Entries.{Entry, Event, callStarted, turnReported, entryRefused, isWaits, isFinished, eventOf, after}
-use Rattle.linear.specs.History.{decides, isLate}
+use Rattle.linear.specs.History.{isDecision, isLate}
 use Rattle.schedule.specs.declared.Call.{Call}
 use Rattle.schedule.specs.declared.book.Book.{Book}
 use Rattle.schedule.specs.Run.{callWidth, callWords}
@@ -127,7 +127,7 @@ withAbsent book absent =
 
 -- a turn, by the worker's records before and after it: it decides an answer; it takes a key out where that is a remove's yes
 abbrev pub settles : Worker → Worker → Bool
-settles before after = decides (before .stage) (after .answer)
+settles before after = isDecision (before .stage) (after .answer)
 
 abbrev pub takesOut : Worker → Worker → Bool
 takesOut before after = settles before after && eqb (before .operation) remove && eqb (after .answer) (answerNumber Yes)

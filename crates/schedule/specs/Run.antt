@@ -15,6 +15,7 @@ use Rattle.linear.specs.Linearizable.{Linearizable}
 use Rattle.schedule.specs.declared.Call.{Call}
 use Rattle.schedule.specs.declared.Totals.{Totals}
 use Rattle.schedule.specs.declared.Summary.{Summary}
+use Rattle.arena.specs.Init.{freshWords}
 use Rattle.schedule.specs.declared.Summary.the-variants as summary
 
 -- entries are three words: worker, act, key
@@ -54,7 +55,7 @@ runRefusals arena workers nodes schedule room =
 -- the run returns entries, refused, waits, calls: the totals of the list of its entries on the arena it lays
 unfoldable pub runAnswer : List ℕ → ℕ → ℕ → List ℕ → ℕ → Reply
 runAnswer arena workers nodes schedule room =
-    let totals = history.totals workers nodes (entriesOf schedule) in
+    let totals = history.totals (freshWords workers nodes) (entriesOf schedule) in
     replied (runRefusals arena workers nodes schedule room)
     (totals .entries ∷ totals .refused ∷ totals .waits ∷ totals .calls ∷ [])
 
@@ -63,7 +64,7 @@ unfoldable pub runArena : List ℕ → ℕ → ℕ → List ℕ → ℕ → List
 runArena arena workers nodes schedule room =
     let entries = entriesOf schedule in
     written (runRefusals arena workers nodes schedule room) arena
-    (history.arenaAt workers nodes entries (length entries) ++ drop (total layoutNumber workers nodes) arena)
+    (history.arenaAt (freshWords workers nodes) entries (length entries) ++ drop (total layoutNumber workers nodes) arena)
 
 -- the history: a record for each call, in order of start
 abbrev pub recordOf : history.Call → Call
@@ -79,7 +80,7 @@ recordOf call =
     }
 
 unfoldable pub recordsOf : ℕ → ℕ → List ℕ → List Call
-recordsOf workers nodes schedule = map recordOf (history.calls workers nodes (entriesOf schedule))
+recordsOf workers nodes schedule = map recordOf (history.calls (freshWords workers nodes) (entriesOf schedule))
 
 -- a row of records that the caller lends; records past the calls stay
 unfoldable pub runRecords : List ℕ → ℕ → ℕ → List ℕ → List Call → List Call
@@ -117,5 +118,5 @@ summaryReply (summary.Refused number) = refused number
 
 -- demand 3, of a run that is done
 abbrev pub DoneLinearizable : Summary → ℕ → ℕ → List ℕ → Type 0
-DoneLinearizable (summary.Done totals) workers nodes schedule = Linearizable workers nodes (entriesOf schedule)
+DoneLinearizable (summary.Done totals) workers nodes schedule = Linearizable (freshWords workers nodes) (entriesOf schedule)
 DoneLinearizable (summary.Refused number) workers nodes schedule = Unit {0}

@@ -8,7 +8,7 @@ ghost use lib.ListN.{getD};
 ghost use Rattle.arena.specs.Replies.{accepted, replied};
 ghost use Rattle.arena.specs.Header.{headerRefusals};
 ghost use Rattle.linear.specs.Entries.{turnReported, isWaits, isFinished, after};
-ghost use Rattle.linear.specs.History.{decides};
+ghost use Rattle.linear.specs.History.{isDecision};
 ghost use Rattle.schedule.specs.Run.{entryOf};
 ghost use Rattle.schedule.specs.Book.{decisionPoint, withFinish, withDecision, takesOut, waitBook, turnBook, Roomy, isBroken, absentFrom, bookAfter, wordsAfter};
 use crate::Call;
@@ -47,8 +47,8 @@ fn is_finished(report: Report) -> bool
 }
 
 // A turn at this stage that leaves this answer decides it.
-fn decides(stage: u16, answer: u16) -> bool
-    ensures { λ r. ⌜ r ≡ decides stage answer ⌝ }
+fn is_decision(stage: u16, answer: u16) -> bool
+    ensures { λ r. ⌜ r ≡ isDecision stage answer ⌝ }
 {
     match stage {
         13 | 23 => answer == Answer::NO,
@@ -91,7 +91,7 @@ fn note_decision(
     ensures { λ _. ⌜ now (history .exit) ≡ withDecision (now (history .entry)) (getD (book .opened) worker 0) before after
         (getD (book .absent) worker 0) time ⌝ }
 {
-    if decides(before.stage, after.answer) {
+    if is_decision(before.stage, after.answer) {
         let number = book.open_call(worker);
         let absent = book.absent_time(worker);
         let point = point_of(before.operation, after.answer, absent, time);
@@ -104,7 +104,7 @@ fn note_decision(
 fn takes_out(before: Worker, after: Worker) -> bool
     ensures { λ r. ⌜ r ≡ takesOut before after ⌝ }
 {
-    decides(before.stage, after.answer)
+    is_decision(before.stage, after.answer)
         & (before.operation == Worker::REMOVE)
         & (after.answer == Answer::YES)
 }

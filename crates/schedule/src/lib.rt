@@ -5,6 +5,7 @@ ghost use mathlib.Core.Bool.{true};
 ghost use Prim.Native.Nat.{_*_, _/_, _%_, _≤_};
 ghost use lib.ListN.{length, drop};
 ghost use Rattle.arena.specs.Layout.{layoutNumber, goodCounts, total};
+ghost use Rattle.arena.specs.Init.{freshWords};
 ghost use Rattle.linear.specs.History.{totals, arenaAt};
 ghost use Rattle.schedule.specs.Run.{entryWidth, entriesOf, operationsIn, callWidth, flatWords, recordsOf, totalsOf};
 ghost use Rattle.schedule.specs.Run.{summaryReply, runAnswer, runArena, runWords, DoneLinearizable};
@@ -86,10 +87,10 @@ fn run_entries(
     requires { ⌜ length (now schedule) ≤ 12000 ⌝ }
     requires { ⌜ callWidth * operationsIn (entriesOf (now schedule)) ≤ length (now history) ⌝ }
     ensures words { λ _. ⌜ now (arena .exit)
-        ≡ arenaAt workers nodes (entriesOf (now (schedule .entry))) (length (entriesOf (now (schedule .entry)))) ⌝ }
+        ≡ arenaAt (freshWords workers nodes) (entriesOf (now (schedule .entry))) (length (entriesOf (now (schedule .entry)))) ⌝ }
     ensures calls { λ _. ⌜ now (history .exit) ≡ flatWords (recordsOf workers nodes (now (schedule .entry)))
         ++ drop (callWidth * length (recordsOf workers nodes (now (schedule .entry)))) (now (history .entry)) ⌝ }
-    ensures totals { λ r. ⌜ r ≡ totalsOf (totals workers nodes (entriesOf (now (schedule .entry)))) ⌝ }
+    ensures totals { λ r. ⌜ r ≡ totalsOf (totals (freshWords workers nodes) (entriesOf (now (schedule .entry)))) ⌝ }
 {
     arena::init(arena, workers, nodes);
     let count = schedule.len() / verdict::ENTRY_WIDTH;

@@ -65,8 +65,8 @@ abbrev pub small : Ask
 small = init 1 3
 
 -- what a turn reports. One that finishes is the last of its call's turns: the next would report idle
-abbrev pub reports : Report → Reply
-reports report = accepted (reportValues report)
+abbrev pub reportReply : Report → Reply
+reportReply report = accepted (reportValues report)
 
 -- only 5 stored, and worker 0 at the start of a call
 abbrev pub stored : ℕ → List Ask
@@ -93,16 +93,16 @@ cases =
     -- key 0 on a busy worker: 4
     ∷ row 28 (small ∷ start 0 contains 5 ∷ []) (start 0 add 0) (refused busy)
     -- turn of an idle worker: idle
-    ∷ row 28 (small ∷ []) (turns 0 1) (reports Idle)
+    ∷ row 28 (small ∷ []) (turns 0 1) (reportReply Idle)
     -- alone on an empty set: add 5 takes 14 turns, contains 5 takes 5
-    ∷ row 28 (small ∷ start 0 add 5 ∷ []) (turns 0 14) (reports (Finished Yes))
-    ∷ row 28 (small ∷ start 0 contains 5 ∷ []) (turns 0 5) (reports (Finished No))
+    ∷ row 28 (small ∷ start 0 add 5 ∷ []) (turns 0 14) (reportReply (Finished Yes))
+    ∷ row 28 (small ∷ start 0 contains 5 ∷ []) (turns 0 5) (reportReply (Finished No))
     -- with only 5 stored: contains 5 takes 6, remove 5 takes 15, add 5 takes 12
-    ∷ row 28 (stored contains) (turns 0 6) (reports (Finished Yes))
-    ∷ row 28 (stored remove) (turns 0 15) (reports (Finished Yes))
-    ∷ row 28 (stored add) (turns 0 12) (reports (Finished No))
+    ∷ row 28 (stored contains) (turns 0 6) (reportReply (Finished Yes))
+    ∷ row 28 (stored remove) (turns 0 15) (reportReply (Finished Yes))
+    ∷ row 28 (stored add) (turns 0 12) (reportReply (Finished No))
     -- two adds on an empty set, worker 0 at stage 7: worker 1 at 6 waits
     ∷ row 36 twoAdds (look 8) (accepted (7 ∷ []))
     ∷ row 36 twoAdds (look 16) (accepted (6 ∷ []))
-    ∷ row 36 twoAdds (turns 1 1) (reports Waits)
+    ∷ row 36 twoAdds (turns 1 1) (reportReply Waits)
     ∷ []

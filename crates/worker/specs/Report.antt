@@ -1,7 +1,7 @@
 -- What a turn reports, in document 01's numbers and values.
 use Prim.Native.Nat.{ℕ}
 use mathlib.Core.List.{List, [], _∷_}
-use mathlib.Core.Bool.{cond}
+use mathlib.Core.Bool.{Bool, true, false, cond}
 use lib.Dec.{eqb}
 use Rattle.worker.specs.declared.report.Answer.{Answer}
 use Rattle.worker.specs.declared.report.Answer.the-variants as answer
@@ -24,3 +24,10 @@ reportValues report.Idle = 0 ∷ []
 reportValues (report.Moved stage) = 1 ∷ stage ∷ []
 reportValues report.Waits = 2 ∷ []
 reportValues (report.Finished answer) = 3 ∷ answerNumber answer ∷ []
+
+-- the reports of a turn that changes nothing
+abbrev pub isStill : Report → Bool
+isStill report.Idle = true
+isStill (report.Moved stage) = false
+isStill report.Waits = true
+isStill (report.Finished answer) = false

@@ -5,7 +5,7 @@ use denote.Ref.{now}
 use lib.Seq.{length-take-le}
 use borrow.Author.Needs.{needs}
 use borrow.Author.Tests.{not-true, not-false}
-use Rattle.bench_input.specs.Input.{answerOf, scheduled}
+use Rattle.bench_input.specs.Input.{parsedOf, scheduled}
 use Rattle.bench_input.proofs.LineLaws.{behind-length}
 use Rattle.bench_input.proofs.InputLaws.{nothing-written, too-long, no-line, not-board, bad-counts, good-counts}
 use Rattle.bench_input.proofs.input.parse.Statement.{statement}
@@ -51,7 +51,7 @@ entries c =
     let whole = good-counts input (found .before .before .if1 .left) _ (found .before .find .ensures) (found .if2 .left) _ _
     (sym (board .before .before .line-of .ensures) ∙ board .workers .given .1)
     (sym (counts .before .good-counts .ensures) ∙ not-false _ (counts .if3 .left)) in (
-      c .before .before .parse-entries .ensures .0 ∙ sym (ap answerOf whole),
+      c .before .before .parse-entries .ensures .0 ∙ sym (ap parsedOf whole),
       c .before .before .parse-entries .ensures .1 ∙ sym (ap (scheduled _) whole),
     )
 

@@ -14,13 +14,13 @@ decided c =
       c .before .before .before .before .before .before .before .point-of .ensures,
       c .before .before .before .before .before .before .before .before .absent-time .ensures,
       c .before .before .before .before .before .before .before .before .before .open-call .ensures,
-      ← c .before .before .before .before .before .before .before .before .before .before .before .decides .ensures,
+      ← c .before .before .before .before .before .before .before .before .before .before .before .is-decision .ensures,
       c .before .before .before .before .before .before .before .before .before .before .if1 .taken,
     )
 
 stays : tie.Need-returns-2
 unfolding withDecision
-stays c = rw (← c .before .decides .ensures, c .if1 .left)
+stays c = rw (← c .before .is-decision .ensures, c .if1 .left)
 
 pub note-decision-spec : {M : Type 1} → statement M
 note-decision-spec =

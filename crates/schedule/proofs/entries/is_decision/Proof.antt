@@ -12,39 +12,39 @@ use Rattle.worker.specs.Worker.{within}
 use Rattle.worker.specs.Report.{answerNumber}
 use Rattle.worker.specs.declared.report.Answer.the-variants.{No}
 use Rattle.worker.proofs.Laws.{not-held, range-bounds}
-use Rattle.linear.specs.History.{decides}
-use Rattle.schedule.proofs.entries.decides.Statement.{statement}
-use Rattle.schedule.proofs.entries.decides.Tie as tie
+use Rattle.linear.specs.History.{isDecision}
+use Rattle.schedule.proofs.entries.is_decision.Statement.{statement}
+use Rattle.schedule.proofs.entries.is_decision.Tie as tie
 
 with-no : tie.Need-returns
-unfolding decides
+unfolding isDecision
 with-no c = go (c .before .args .stage) (c .match .keys1)
   where
     answer : ℕ
     answer = c .before .args .answer
 
-    go : (stage : ℕ) → OneOf (13 ∷ 23 ∷ []) stage → eqb answer (answerNumber No) ≡ decides stage answer
+    go : (stage : ℕ) → OneOf (13 ∷ 23 ∷ []) stage → eqb answer (answerNumber No) ≡ isDecision stage answer
     go stage (inl at-13) = rw at-13 (simp or-false)
     go stage (inr at-23) = rw at-23 (simp or-false)
 
 with-full : tie.Need-returns-2
-unfolding decides
+unfolding isDecision
 with-full c = rw (c .match .keys2) (simp or-false)
 
 at-once : tie.Need-returns-3
-unfolding decides
+unfolding isDecision
 at-once c = go (c .before .args .stage) (c .match .keys3)
   where
-    go : (stage : ℕ) → OneOf (15 ∷ 25 ∷ []) stage → true ≡ decides stage (c .before .args .answer)
+    go : (stage : ℕ) → OneOf (15 ∷ 25 ∷ []) stage → true ≡ isDecision stage (c .before .args .answer)
     go stage (inl at-15) = rw at-15
     go stage (inr at-25) = rw at-25
 
 at-16 : tie.Need-returns-4
-unfolding decides
+unfolding isDecision
 at-16 c = rw (c .match .keys4)
 
 elsewhere : tie.Need-returns-5
-unfolding decides
+unfolding isDecision
 elsewhere c =
     let stage = c .before .args .stage in
     let others = c .match .rest in
@@ -58,5 +58,5 @@ elsewhere c =
       ne-eqb stage 25 (λ e. others .0 .1 (inr e)),
     )
 
-pub decides-spec : {M : Type 1} → statement M
-decides-spec = tie.close (tie.spec with-no with-full at-once at-16 elsewhere)
+pub is-decision-spec : {M : Type 1} → statement M
+is-decision-spec = tie.close (tie.spec with-no with-full at-once at-16 elsewhere)

@@ -1,0 +1,52 @@
+-- What is claimed of a turn on an arena, in document 01's words. `TurnLaws` and `InsideLaws` have the proofs.
+use Prim.Native.Nat.{ℕ, _<_, _≤_}
+use mathlib.Core.Path.{_≡_}
+use mathlib.Core.Logic.{_⊎_}
+use mathlib.Core.List.{List}
+use Rattle.worker.specs.Report.{answerNumber}
+use Rattle.worker.specs.declared.Worker.{Worker}
+use Rattle.worker.specs.declared.report.Answer.the-variants.{Full}
+use Rattle.worker.specs.declared.report.Step.{Step}
+use Rattle.worker.specs.declared.report.Effect.{Effect}
+use Rattle.worker.specs.declared.report.Effect.the-variants.{Nothing, SetOwner, SetNext, SetMark, Fill}
+use Rattle.arena.specs.Layout.{layoutOf, workersOf, nodesOf, nodeWidth, nodesFrom, totalOf, nodePart, nodeFrom, nodeNext, nodeMark, nodeOwner}
+use Rattle.arena.specs.Records.{workerAt, nextAt, Outside}
+use Rattle.lazy.specs.Free.{rootsOf, IsFree}
+
+-- the links and the roots of an arena
+abbrev pub nextIn : List ℕ → ℕ → ℕ
+nextIn arena = nextAt (nodeWidth (layoutOf arena)) (nodePart arena)
+
+abbrev pub rootsIn : List ℕ → List ℕ
+rootsIn arena = rootsOf (workerAt arena) (workersOf arena)
+
+-- no run of next links leads to the node from node 0, node 1, or the pred, curr or spare of any worker
+abbrev pub FreeIn : List ℕ → ℕ → Type 0
+FreeIn arena = IsFree (nextIn arena) (nodesOf arena) (rootsIn arena)
+
+-- a turn at 14 (`TurnLaws.takes-free`)
+module _ (arena : List ℕ) (w : Worker) (step : Step) where
+  -- takes the lowest-numbered free node
+  pub record Takes : Type 0 where
+    pub node : ℕ
+    pub effect : step .effect ≡ Fill node (w .key) (w .curr)
+    pub free : FreeIn arena node
+    pub lowest : (lower : ℕ) → lower < node → FreeIn arena lower → ⊥
+
+  -- or answers full, and there is none
+  pub record IsFull : Type 0 where
+    pub effect : step .effect ≡ Nothing
+    pub answer : step .worker .answer ≡ answerNumber Full
+    pub none : (node : ℕ) → FreeIn arena node → ⊥
+
+-- a place that an effect writes: a field of its node, or all of them (`TurnLaws.turn-leaves`)
+abbrev pub Touches : List ℕ → Effect → ℕ → Type 0
+Touches arena Nothing at = ⊥
+Touches arena (SetOwner node owner) at = at ≡ nodeFrom arena node nodeOwner
+Touches arena (SetNext node next) at = at ≡ nodeFrom arena node nodeNext
+Touches arena (SetMark node) at = at ≡ nodeFrom arena node nodeMark
+Touches arena (Fill node key next) at = (field : ℕ) × (field ≤ nodeOwner) × (at ≡ nodeFrom arena node field)
+
+-- a place that no turn of a worker writes: in the header, in another worker's record, or past the total (`InsideLaws.turn-inside`)
+abbrev pub Elsewhere : List ℕ → ℕ → ℕ → Type 0
+Elsewhere arena worker at = ((at < nodesFrom (workersOf arena)) × Outside worker at) ⊎ (totalOf arena ≤ at)

@@ -1,0 +1,31 @@
+-- Lent slices: what init leaves in one of any sufficient length, and the entries from there on.
+use Prim.Native.Nat.{ℕ}
+use mathlib.Core.Path.{_≡_}
+use mathlib.Core.List.{List, [], _++_}
+use lib.ListN.{drop}
+use Rattle.arena.specs.Layout.{layoutNumber, total}
+use Rattle.arena.specs.Replies.{accepted, replied}
+use Rattle.arena.specs.Header.{headerRefusals}
+use Rattle.arena.specs.Init.{freshWords, initArena}
+use Rattle.linear.specs.Entries.{Entry, eventOf, after}
+use Rattle.linear.specs.History.{arenaAt, eventAt}
+use Rattle.linear.specs.Linearizable.{Linearizable, Unbroken, ExactSets}
+
+-- further words behind an arena that passes the header test are not looked at, and stay
+pub record Unseen (arena more : List ℕ) (entry : Entry) : Type 0 where
+  pub same-event : eventOf (arena ++ more) entry ≡ eventOf arena entry
+  pub same-words : after (arena ++ more) entry ≡ after arena entry ++ more
+
+abbrev pub MoreUnseen : Type 0
+MoreUnseen = (arena more : List ℕ) (entry : Entry) → replied (headerRefusals arena) [] ≡ accepted [] → Unseen arena more entry
+
+-- what init leaves in a lent slice: a list from there comes to what it comes to from a fresh arena, with the words past the total behind
+pub record AsFresh (lent : List ℕ) (workers nodes : ℕ) (entries : List Entry) : Type 0 where
+  pub events : (time : ℕ) → eventAt (initArena lent workers nodes) entries time ≡ eventAt (freshWords workers nodes) entries time
+  pub words : (time : ℕ) →
+      arenaAt (initArena lent workers nodes) entries time
+      ≡ arenaAt (freshWords workers nodes) entries time ++ drop (total layoutNumber workers nodes) lent
+  -- and demand 3 holds of it there
+  pub linearizable : Linearizable (initArena lent workers nodes) entries
+  pub unbroken : Unbroken (initArena lent workers nodes) entries
+  pub exact-sets : ExactSets (initArena lent workers nodes) entries
