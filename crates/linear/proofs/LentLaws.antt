@@ -11,7 +11,7 @@ use Rattle.arena.proofs.Judged.{judged-accepted}
 use Rattle.arena.proofs.FreshLaws.{init-passed}
 use Rattle.linear.specs.Entries.{Entry, eventOf, after}
 use Rattle.linear.specs.History.{entryAt, arenaAt, eventAt}
-use Rattle.linear.specs.Lent.{Unseen, AsFresh}
+use Rattle.linear.specs.Lent.{Unseen, AsFresh, LaidAsFresh}
 use Rattle.linear.proofs.State.{decode}
 use Rattle.linear.proofs.Bridge.{Sound}
 use Rattle.linear.proofs.Longer.{sound-longer, state-same, unseen}
@@ -74,5 +74,8 @@ module _ (lent : List ℕ) (workers nodes : ℕ) (entries : List Entry) (accepts
       let entry = entryAt entries time in
       ap (λ words. eventOf words entry) (same-words (time - 1)) ∙ unseen-at (time - 1) entry .same-event
 
-  pub as-fresh : AsFresh lent workers nodes entries
-  as-fresh = record { events = same-events; words = same-words; linearizable = proved r; unbroken = unmet r; exact-sets = sets-exact r }
+  goes-as-fresh : AsFresh lent workers nodes entries
+  goes-as-fresh = record { events = same-events; words = same-words; linearizable = proved r; unbroken = unmet r; exact-sets = sets-exact r }
+
+pub as-fresh : LaidAsFresh
+as-fresh = goes-as-fresh

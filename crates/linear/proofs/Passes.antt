@@ -16,7 +16,7 @@ use Rattle.worker.proofs.RefusalLaws.{NoneHolds}
 use Rattle.worker.proofs.Tables.{AllFrom, end, _then_, row-at}
 use Rattle.lazy.specs.Turn.{seenOf}
 use Rattle.linear.proofs.State.{State, seenIn}
-use Rattle.linear.proofs.Promises.{Promise, promises, sane}
+use Rattle.linear.proofs.Promises.{Promise, promises, hasAnswer, sane}
 use Rattle.linear.proofs.Invariant.{Inv}
 use Rattle.linear.proofs.Effects.{spare-in}
 
@@ -30,7 +30,7 @@ whole-record w e =
     (call .0, rw (call .1) (answered (within 19 21 (w .stage)) refl (both .1)))
   where
     answered : (late : Bool) → within 19 21 (w .stage) ≡ late →
-        cond (within 17 21 (w .stage)) (within 1 3 (w .answer)) (eqb (w .answer) 0) ≡ true → not late || within 1 3 (w .answer) ≡ true
+        cond (hasAnswer (w .stage)) (within 1 3 (w .answer)) (eqb (w .answer) 0) ≡ true → not late || within 1 3 (w .answer) ≡ true
     answered false at given = refl
     answered true at given =
         let bounds = range-bounds 19 21 (w .stage) at in rw (in-range 17 21 (w .stage) (omega arith) (bounds .1)) at given

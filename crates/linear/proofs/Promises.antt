@@ -178,10 +178,14 @@ promises =
 abbrev pub promiseAt : ℕ → Promise
 promiseAt stage = getD promises stage (λ nodes s me e pred curr spare. ⊥)
 
--- of a busy worker's record: its operation belongs to the stage, its key is a key of calls, and it has an answer from 17 to 21
+-- a busy worker has an answer from 17 to 21
+abbrev pub hasAnswer : ℕ → Bool
+hasAnswer stage = within 17 21 stage
+
+-- of its record: the operation belongs to the stage, the key is a key of calls, and the answer is one of the three or none
 abbrev pub sane : ℕ → ℕ → ℕ → ℕ → Bool
 sane stage operation key answer =
-    belongs stage operation && isKey key && cond (within 17 21 stage) (within 1 3 answer) (eqb answer 0)
+    belongs stage operation && isKey key && cond (hasAnswer stage) (within 1 3 answer) (eqb answer 0)
 
 pub record Standing (nodes : ℕ) (s : State) (me : ℕ) (w : Worker) : Type 0 where
   pub promise : promiseAt (w .stage) nodes s me (w .key) (w .pred) (w .curr) (w .spare)

@@ -24,6 +24,7 @@ use Rattle.linear.proofs.ListLaws.{first-holds}
 use Rattle.linear.proofs.Reach.{same?}
 use Rattle.linear.proofs.State.{State, decode, stepped, startStep, seenIn, turnStep}
 use Rattle.linear.proofs.Bridge.{Entered, refuses, starts, turns}
+use Rattle.linear.proofs.Promises.{hasAnswer}
 use Rattle.linear.proofs.Invariant.{Inv}
 use Rattle.linear.proofs.TurnKinds.{sane-parts}
 use Rattle.linear.proofs.Timeline.{Schedule, Begun, arena, state, entry, outcome, outcome-is, entered-at, always, finishing, call-at, last}
@@ -32,8 +33,8 @@ use Rattle.linear.proofs.Points.{made, answerAt, Fate, waits, acted, lo
 
 -- a busy worker that has an answer is at 17 to 21, and the answer is one of the three
 closing : {nodes : ℕ} {s : State} → Inv nodes s → (v : ℕ) → s .worker v .stage ≢ 0 → s .worker v .answer ≢ 0 →
-    (within 17 21 (s .worker v .stage) ≡ true) × (within 1 3 (s .worker v .answer) ≡ true)
-closing {s = s} inv v busy some = go (within 17 21 (s .worker v .stage)) (sane-parts inv v refl busy .2)
+    (hasAnswer (s .worker v .stage) ≡ true) × (within 1 3 (s .worker v .answer) ≡ true)
+closing {s = s} inv v busy some = go (hasAnswer (s .worker v .stage)) (sane-parts inv v refl busy .2)
   where
     go : (late : Bool) → cond late (within 1 3 (s .worker v .answer)) (eqb (s .worker v .answer) 0) ≡ true →
         (late ≡ true) × (within 1 3 (s .worker v .answer) ≡ true)
@@ -46,7 +47,7 @@ Closes w step =
     ((step .worker .answer ≡ w .answer) × (isFinished (turnReported (step .report)) ≡ false))
     ⊎ (step .report ≡ Finished (numberedAnswer (w .answer)))
 
-step-closes : (w : Worker) (owner : ℕ) (seen : Seen) → within 17 21 (w .stage) ≡ true → Closes w (stepOf w owner seen)
+step-closes : (w : Worker) (owner : ℕ) (seen : Seen) → hasAnswer (w .stage) ≡ true → Closes w (stepOf w owner seen)
 step-closes w owner seen late =
     ⊎-elim (λ e. row e (inl (refl, refl)))
     (λ a. ⊎-elim (λ e. row e (inl (refl, refl)))

@@ -19,7 +19,7 @@ use Rattle.worker.proofs.Laws.{range-bounds, in-range}
 use Rattle.linear.specs.Entries.{isFinished, turnReported}
 use Rattle.linear.specs.History.{isDecision}
 use Rattle.linear.proofs.State.{State, stepped}
-use Rattle.linear.proofs.Promises.{Holds, in-pred, in-curr, in-spare, promiseAt, sane}
+use Rattle.linear.proofs.Promises.{Holds, in-pred, in-curr, in-spare, promiseAt, hasAnswer, sane}
 use Rattle.linear.proofs.Invariant.{Ahead, Inv, Range, key-range, sane-at}
 use Rattle.linear.proofs.Effects.{Known, old, Act, quiet, owns, Fills}
 use Rattle.linear.proofs.After.{Places}
@@ -79,7 +79,7 @@ module _ {nodes : ℕ} {s : State} (inv : Inv nodes s) (me : ℕ) where
   -- the test on the record, by its parts
   pub sane-parts : {n : ℕ} → w .stage ≡ n → n ≢ 0 →
       (belongs n (w .operation) ≡ true) × (isKey (w .key) ≡ true) ×
-      (cond (within 17 21 n) (within 1 3 (w .answer)) (eqb (w .answer) 0) ≡ true)
+      (cond (hasAnswer n) (within 1 3 (w .answer)) (eqb (w .answer) 0) ≡ true)
   sane-parts at busy = parts _ _ _ (sane-at inv me at busy)
 
   pub key-in-range : {n : ℕ} → w .stage ≡ n → n ≢ 0 → Range (w .key)

@@ -6,16 +6,17 @@ use lib.ListN.{drop}
 use Rattle.arena.specs.Layout.{layoutNumber, total}
 use Rattle.arena.specs.Replies.{accepted, replied}
 use Rattle.arena.specs.Header.{headerRefusals}
-use Rattle.arena.specs.Init.{freshWords, initArena}
+use Rattle.arena.specs.Init.{freshWords, initAnswer, initArena}
 use Rattle.linear.specs.Entries.{Entry, eventOf, after}
 use Rattle.linear.specs.History.{arenaAt, eventAt}
 use Rattle.linear.specs.Linearizable.{Linearizable, Unbroken, ExactSets}
 
--- further words behind an arena that passes the header test are not looked at, and stay
+-- further words behind an arena: an entry does not look at them, and they stay
 pub record Unseen (arena more : List ℕ) (entry : Entry) : Type 0 where
   pub same-event : eventOf (arena ++ more) entry ≡ eventOf arena entry
   pub same-words : after (arena ++ more) entry ≡ after arena entry ++ more
 
+-- so it is behind every arena that passes the header test (`Longer.more-unseen`)
 abbrev pub MoreUnseen : Type 0
 MoreUnseen = (arena more : List ℕ) (entry : Entry) → replied (headerRefusals arena) [] ≡ accepted [] → Unseen arena more entry
 
@@ -29,3 +30,9 @@ pub record AsFresh (lent : List ℕ) (workers nodes : ℕ) (entries : List Entry
   pub linearizable : Linearizable (initArena lent workers nodes) entries
   pub unbroken : Unbroken (initArena lent workers nodes) entries
   pub exact-sets : ExactSets (initArena lent workers nodes) entries
+
+-- so it is in every slice that init accepts (`LentLaws.as-fresh`)
+abbrev pub LaidAsFresh : Type 0
+LaidAsFresh =
+    (lent : List ℕ) (workers nodes : ℕ) (entries : List Entry) → initAnswer lent workers nodes ≡ accepted [] →
+    AsFresh lent workers nodes entries
