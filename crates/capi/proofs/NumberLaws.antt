@@ -1,5 +1,5 @@
 -- What a C program reads from the one number.
-use Prim.Native.Nat.{ℕ, suc, _≤_}
+use Prim.Native.Nat.{ℕ, suc}
 use mathlib.Core.Path.{_≡_, refl}
 use mathlib.Core.List.{List, [], _∷_}
 use mathlib.Core.Bool.{Bool, true, false, cond, _&&_, and-eq-true-iff}
@@ -30,7 +30,7 @@ use Rattle.schedule.specs.Run.{entriesOf, runRefusals, runAnswer, summaryReply,
 use Rattle.schedule.specs.declared.Summary.{Summary}
 use Rattle.schedule.specs.declared.Summary.the-variants as summary
 use Rattle.linear.specs.Linearizable.{Linearizable}
-use Rattle.capi.specs.Number.{replyNumber, refusalIn, reportIn, valueIn, countIn, Readable, bare}
+use Rattle.capi.specs.Number.{replyNumber, reportIn, valueIn, countIn, Readable, bare}
 
 -- the report of a turn, and the stage or the answer with it
 pub report-read : (r : Report) →

@@ -1,5 +1,5 @@
 -- What a turn on an arena does and what it leaves: for those who build on it.
-use Prim.Native.Nat.{ℕ, suc, _<_, _≤_}
+use Prim.Native.Nat.{ℕ, suc, _<_}
 use mathlib.Core.Path.{_≡_, refl, sym, ap, _∙_}
 use mathlib.Core.Logic.{_⊎_, inl, inr}
 use mathlib.Core.List.{List, [], _∷_}
@@ -10,7 +10,7 @@ use lib.Dec.{leb, eqb}
 use borrow.Author.Tests.{leb-false}
 use Rattle.worker.specs.Node.{newNode}
 use Rattle.worker.specs.Refusals.{Refusal, judged, noSuchWorker}
-use Rattle.worker.specs.Report.{answerNumber, reportValues, isStill}
+use Rattle.worker.specs.Report.{reportValues, isStill}
 use Rattle.worker.specs.Stages.{takes, stepOf}
 use Rattle.worker.specs.Turn.{turnOf}
 use Rattle.worker.specs.declared.Worker.{Worker}
@@ -27,7 +27,7 @@ use Rattle.worker.proofs.RefusalLaws.{judged-append, none-accepts}
 use Rattle.worker.proofs.ReportLaws.{report-told}
 use Rattle.worker.proofs.TurnLaws.{judged-done, done-step, step-row}
 use Rattle.worker.proofs.StillLaws.{still-step}
-use Rattle.arena.specs.Layout.{word, layoutOf, workersOf, nodesOf, nodeWidth, nodePart, nodeFrom, nodeKey, nodeNext, nodeMark, nodeOwner}
+use Rattle.arena.specs.Layout.{word, workersOf, nodesOf, nodeFrom, nodeKey, nodeNext, nodeMark, nodeOwner}
 use Rattle.arena.specs.Records.{workerAt, nodeWords, Outside}
 use Rattle.arena.specs.Replies.{refused, accepted}
 use Rattle.arena.specs.Header.{headerRefusals}

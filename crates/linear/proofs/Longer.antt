@@ -8,7 +8,7 @@ use native.Mathlib.Decide.{decLt}
 use lib.ListN.{length, take, drop, set, length-append, length-drop, List·getD-append}
 use lib.Seq.{sets, set-append-left, take-append-le, drop-append-le}
 use lib.Dec.{leb}
-use borrow.Author.Tests.{le-ltb, le-leb, leb-false}
+use borrow.Author.Tests.{le-leb, leb-false}
 use Rattle.worker.specs.Node.{newNode}
 use Rattle.worker.specs.Worker.{startedWorker}
 use Rattle.worker.specs.Refusals.{Refusal, judged, noSuchWorker}
@@ -16,15 +16,14 @@ use Rattle.worker.specs.Turn.{turnOf}
 use Rattle.worker.specs.declared.Worker.{Worker}
 use Rattle.worker.specs.declared.report.Effect.{Effect}
 use Rattle.worker.specs.declared.report.Effect.the-variants.{Nothing, SetOwner, SetNext, SetMark, Fill}
-use Rattle.worker.specs.declared.report.Step.{Step}
 use Rattle.worker.specs.declared.report.Turned.{Turned}
 use Rattle.worker.specs.declared.report.Turned.the-variants.{Refused, Done}
 use Rattle.worker.proofs.RefusalLaws.{NoneHolds, judged-append, none-accepts}
 use Rattle.worker.proofs.EffectLaws.{EffectBelow}
-use Rattle.arena.specs.Layout.{word, headerWidth, workerFrom, workerWidth, nodeWidth, slot, headerWords, workersOf, nodesOf, nodesFromOf, totalOf, layoutOf, nodePart, nodeFrom, nodeKey, nodeNext, nodeMark, nodeOwner}
+use Rattle.arena.specs.Layout.{word, headerWidth, workerFrom, nodeWidth, workersOf, nodesOf, nodesFromOf, totalOf, nodePart, nodeFrom, nodeKey, nodeNext, nodeMark, nodeOwner}
 use Rattle.arena.specs.Records.{workerAt, workerWords, withWorker, nodeWords, nodeAt}
 use Rattle.arena.specs.Replies.{Reply, refused, accepted, replied}
-use Rattle.arena.specs.Header.{isHeader, headerRefusals}
+use Rattle.arena.specs.Header.{headerRefusals}
 use Rattle.arena.specs.Start.{callRefusals, startRefusals, startArena}
 use Rattle.arena.proofs.HeaderLaws.{Header}
 use Rattle.arena.proofs.Judged.{none-holds, judged-refused, judged-accepted}
@@ -36,7 +35,7 @@ use Rattle.linear.specs.Entries.{Entry, isTurn, callStarted, entryRefuse
 use Rattle.linear.specs.Lent.{Unseen, MoreUnseen}
 use Rattle.linear.proofs.State.{decode}
 use Rattle.linear.proofs.Words.{effect-long}
-use Rattle.linear.proofs.Stepped.{header-of, record-words, known-record, no-record}
+use Rattle.linear.proofs.Stepped.{header-of, record-words, none-same, worker-same, place-same}
 use Rattle.linear.proofs.Bridge.{Sound, roots-same, turn-judged, turn-unknown}
 
 module _ (arena more : List ℕ) (none : NoneHolds (headerRefusals arena)) where
@@ -54,29 +53,7 @@ module _ (arena more : List ℕ) (none : NoneHolds (headerRefusals arena)) where
   header-word at inside = same-word at (omega (arith, order .long))
 
   none-longer : NoneHolds (headerRefusals longer)
-  unfolding headerRefusals isHeader headerWords
-  none-longer =
-      let long : length longer ≡ length arena + length more = length-append arena more in
-      let end = header-word 5 (omega arith) in (
-        rw (
-          le-ltb (length longer) headerWidth (omega (arith, order .long)),
-          le-ltb (length longer) (totalOf longer) (omega (arith, order .whole)),
-        ),
-        (
-          rw (
-            header-word 0 (omega arith),
-            header-word 1 (omega arith),
-            header-word 2 (omega arith),
-            header-word 3 (omega arith),
-            header-word 4 (omega arith),
-            header-word 5 (omega arith),
-            header-word 6 (omega arith),
-            header-word 7 (omega arith),
-          )
-              (none .1 .0),
-          tt,
-        ),
-      )
+  none-longer = none-same arena longer header-word (rw length-append (omega arith)) none
 
   sound-here : Sound (workersOf arena) (nodesOf arena) arena
   sound-here = record { none = none; workers-are = refl; nodes-are = refl }
@@ -102,14 +79,6 @@ module _ (arena more : List ℕ) (none : NoneHolds (headerRefusals arena)) where
       ∙ take-append-le count (drop from arena) more (rw length-drop (omega (arith, order .whole, order .from, order .end)))
 
   -- decoded it is the same state
-  worker-same : (v : ℕ) → decode longer .worker v ≡ decode arena .worker v
-  worker-same v =
-      let workers = header-word 1 (omega arith) in
-      elim (decLt v (workersOf arena)) [
-        | yes there ↦ known-record longer v (omega arith) ∙ record-same v there ∙ sym (known-record arena v there)
-        | no gone ↦ no-record longer v (omega arith) ∙ sym (no-record arena v (omega arith))
-      ]
-
   pub state-same : decode (arena ++ more) ≡ decode arena
   state-same =
       λ i.
@@ -119,7 +88,7 @@ module _ (arena more : List ℕ) (none : NoneHolds (headerRefusals arena)) where
         next = λ n. node n .next;
         mark = λ n. node n .mark;
         owner = λ n. node n .owner;
-        worker = fun-ext worker-same i;
+        worker = fun-ext (λ v. worker-same arena longer header-word v (record-same v)) i;
       }
 
   -- so a turn sees the same, and is the same
@@ -146,15 +115,11 @@ module _ (arena more : List ℕ) (none : NoneHolds (headerRefusals arena)) where
       ]
 
   -- it writes at the same places, all before the further words
-  place-same : (node field : ℕ) → nodeFrom longer node field ≡ nodeFrom arena node field
-  unfolding nodeFrom
-  place-same node field = λ i. header-word 4 (omega arith) i + slot (nodeWidth (header-word 0 (omega arith) i)) node field
-
   field-longer : (node field value : ℕ) → node < nodesOf arena → field ≤ nodeOwner →
       set longer (nodeFrom longer node field) value ≡ set arena (nodeFrom arena node field) value ++ more
   field-longer node field value below fits =
       let inside = field-inside arena node field order below fits in
-      ap (λ at. set longer at value) (place-same node field)
+      ap (λ at. set longer at value) (place-same arena longer header-word node field)
       ∙ set-append-left arena more (nodeFrom arena node field) value (omega (arith, order .whole))
 
   effect-longer : (e : Effect) → EffectBelow (nodesOf arena) e → withEffect longer e ≡ withEffect arena e ++ more
@@ -165,7 +130,7 @@ module _ (arena more : List ℕ) (none : NoneHolds (headerRefusals arena)) where
   effect-longer (SetMark node) below = field-longer node nodeMark 1 below (omega arith)
   effect-longer (Fill node key next) below =
       let inside = field-inside arena node nodeOwner order below (omega arith) in
-      ap (λ at. sets longer at (nodeWords (newNode key next))) (place-same node nodeKey)
+      ap (λ at. sets longer at (nodeWords (newNode key next))) (place-same arena longer header-word node nodeKey)
       ∙ sets-front (nodeWords (newNode key next)) arena more (nodeFrom arena node nodeKey) (omega (arith, order .whole))
 
   record-longer : (words : List ℕ) (w : ℕ) (to : Worker) → length words ≡ length arena → w < workersOf arena →

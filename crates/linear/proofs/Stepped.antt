@@ -14,7 +14,7 @@ use Rattle.worker.specs.declared.report.Step.{Step}
 use Rattle.worker.specs.declared.report.Turned.the-variants.{Done}
 use Rattle.worker.proofs.RefusalLaws.{NoneHolds, none-accepts}
 use Rattle.worker.proofs.EffectLaws.{EffectBelow}
-use Rattle.arena.specs.Layout.{word, headerWidth, workerWidth, workerStage, workerOperation, workerKey, workerPred, workerCurr, workerSpare, workerAnswer, workerReserved, nodeKey, nodeNext, nodeMark, nodeOwner, workerFrom, nodeWidth, slot, headerWords, workersOf, nodesOf, nodesFromOf, nodeFrom}
+use Rattle.arena.specs.Layout.{word, headerWidth, workerWidth, workerStage, workerOperation, workerKey, workerPred, workerCurr, workerSpare, workerAnswer, workerReserved, nodeKey, nodeNext, nodeMark, nodeOwner, workerFrom, nodeWidth, slot, headerWords, workersOf, nodesOf, nodesFromOf, nodeFrom, totalOf}
 use Rattle.arena.specs.Records.{workerAt, workerWords, withWorker, nodeAt, Outside}
 use Rattle.arena.specs.Replies.{refused, accepted}
 use Rattle.arena.specs.Header.{isHeader, headerRefusals}
@@ -28,23 +28,6 @@ use Rattle.linear.proofs.Words.{fieldIn, effect-long, effect-before, fi
 -- an arena that the header test does not refuse has its header in order
 pub header-of : (arena : List ℕ) → NoneHolds (headerRefusals arena) → Header arena
 header-of arena none = header-holds arena (sym (none-accepts (headerRefusals arena) refused (accepted []) none))
-
--- the test looks at the length and at the words of the header alone
-refusals-same : (a b : List ℕ) → length a ≡ length b → ((at : ℕ) → at < headerWidth → word a at ≡ word b at) →
-    headerRefusals a ≡ headerRefusals b
-unfolding headerRefusals isHeader headerWords
-refusals-same a b long same =
-    rw (
-      long,
-      same 0 (omega arith),
-      same 1 (omega arith),
-      same 2 (omega arith),
-      same 3 (omega arith),
-      same 4 (omega arith),
-      same 5 (omega arith),
-      same 6 (omega arith),
-      same 7 (omega arith),
-    )
 
 -- a worker's record of given words
 abbrev pub recordOf : (ℕ → ℕ) → Worker
@@ -84,6 +67,48 @@ known-record arena v there = rw (lt-ltb v (workersOf arena) there)
 pub no-record : (arena : List ℕ) (v : ℕ) → workersOf arena ≤ v → decode arena .worker v ≡ idleWorker
 no-record arena v gone = rw (le-ltb v (workersOf arena) gone)
 
+-- Another arena with the same words in its header:
+module _ (arena other : List ℕ) (same : (at : ℕ) → at < headerWidth → word other at ≡ word arena at) where
+  -- where it is long enough too, it passes the header test as well
+  pub none-same : length arena ≤ length other → NoneHolds (headerRefusals arena) → NoneHolds (headerRefusals other)
+  unfolding headerRefusals isHeader headerWords
+  none-same long none =
+      let order = header-of arena none in
+      let total = same 5 (omega arith) in (
+        rw (
+          le-ltb (length other) headerWidth (omega (arith, order .long)),
+          le-ltb (length other) (totalOf other) (omega (arith, order .whole)),
+        ),
+        (
+          rw (
+            same 0 (omega arith),
+            same 1 (omega arith),
+            same 2 (omega arith),
+            same 3 (omega arith),
+            same 4 (omega arith),
+            same 5 (omega arith),
+            same 6 (omega arith),
+            same 7 (omega arith),
+          )
+              (none .1 .0),
+          tt,
+        ),
+      )
+
+  -- decoded, a worker is the same where its record is
+  pub worker-same : (v : ℕ) → (v < workersOf arena → workerAt other v ≡ workerAt arena v) → decode other .worker v ≡ decode arena .worker v
+  worker-same v stays =
+      let workers = same 1 (omega arith) in
+      elim (decLt v (workersOf arena)) [
+        | yes there ↦ known-record other v (omega arith) ∙ stays there ∙ sym (known-record arena v there)
+        | no gone ↦ no-record other v (omega arith) ∙ sym (no-record arena v (omega arith))
+      ]
+
+  -- a field of a node stands at the same place
+  pub place-same : (node field : ℕ) → nodeFrom other node field ≡ nodeFrom arena node field
+  unfolding nodeFrom
+  place-same node field = λ i. same 4 (omega arith) i + slot (nodeWidth (same 0 (omega arith) i)) node field
+
 -- the arena after a worker's step
 abbrev pub steppedArena : List ℕ → ℕ → Step → List ℕ
 steppedArena arena worker step = turnedArena arena worker (Done step)
@@ -114,7 +139,7 @@ module _ (arena : List ℕ) (none : NoneHolds (headerRefusals arena)) (worker : 
 
   -- so it is still in order
   pub none-stays : NoneHolds (headerRefusals (steppedArena arena worker step))
-  none-stays = rw (refusals-same later arena long-stays header-stays) none
+  none-stays = none-same arena later header-stays (omega (arith, long-stays)) none
 
   module _ (known : worker < workersOf arena) where
     -- the other workers' records stay
@@ -137,11 +162,7 @@ module _ (arena : List ℕ) (none : NoneHolds (headerRefusals arena)) (worker : 
         let workers : workersOf later ≡ workersOf arena = header-stays 1 (omega arith) in
         elim (ℕ-discrete v worker) [
           | yes same ↦ rw (eq-eqb v worker same, same) (known-record later worker (omega arith) ∙ record-steps)
-          | no other ↦ rw (ne-eqb v worker other)
-              (elim (decLt v (workersOf arena)) [
-                | yes there ↦ known-record later v (omega arith) ∙ record-stays v there other ∙ sym (known-record arena v there)
-                | no gone ↦ no-record later v (omega arith) ∙ sym (no-record arena v (omega arith))
-              ])
+          | no other ↦ rw (ne-eqb v worker other) (worker-same arena later header-stays v (λ there. record-stays v there other))
         ]
 
     module _ (below : EffectBelow (nodesOf arena) (step .effect)) where
@@ -153,11 +174,9 @@ module _ (arena : List ℕ) (none : NoneHolds (headerRefusals arena)) (worker : 
           let nodes : nodesOf later ≡ nodesOf arena = header-stays 2 (omega arith) in
           elim (decLt n (nodesOf arena)) [
             | yes there ↦
-                let place : nodeFrom later n f ≡ nodeFrom arena n f
-                = λ i. header-stays 4 (omega arith) i + slot (nodeWidth (header-stays 0 (omega arith) i)) n f in
                 let inside = field-inside arena n f order there room in
                 field-word later order-later n f (omega arith) room
-                ∙ ap (word later) place
+                ∙ ap (word later) (place-same arena later header-stays n f)
                 ∙ others-stay (withEffect arena (step .effect)) worker (step .worker) (nodeFrom arena n f)
                 (inr (omega (arith, order .from)))
                 ∙ effect-word arena order (step .effect) n f below room

@@ -17,7 +17,7 @@ use Rattle.worker.specs.declared.report.Step.{Step}
 use Rattle.worker.proofs.Laws.{range-bounds}
 use Rattle.worker.proofs.ReportLaws.{numbered-back}
 use Rattle.worker.proofs.TurnLaws.{step-row}
-use Rattle.linear.specs.Entries.{Entry, turnReported, isFinished}
+use Rattle.linear.specs.Entries.{turnReported, isFinished}
 use Rattle.linear.specs.History.{Call, arenaAt, finishOf, callAt}
 use Rattle.linear.specs.Linearizable.{Tells}
 use Rattle.linear.proofs.ListLaws.{first-holds}

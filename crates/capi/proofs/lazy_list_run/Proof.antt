@@ -1,6 +1,6 @@
 -- What a run answers, as one number and four totals; only a run that is done replies 0.
 use borrow.Author.Needs.{needs}
-use Rattle.capi.proofs.NumberLaws.{run-tells, zero-done}
+use Rattle.capi.proofs.NumberLaws.{run-readable, zero-done}
 use Rattle.capi.proofs.lazy_list_run.Statement.{statement}
 use Rattle.capi.proofs.lazy_list_run.Tie as tie
 
@@ -15,7 +15,7 @@ returns c =
           ran .1 .1 .0,
           (
             rw (c .before .write-totals .ensures, ran .0),
-            λ zero. zero-done s _ _ _ (rw (ran .0) (run-tells _ _ _ _ _)) (rw (← c .of-summary .ensures) zero) (ran .1 .1 .1),
+            λ zero. zero-done s _ _ _ (rw (ran .0) (run-readable _ _ _ _ _)) (rw (← c .of-summary .ensures) zero) (ran .1 .1 .1),
           ),
         ),
       ),
