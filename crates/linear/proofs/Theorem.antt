@@ -22,10 +22,10 @@ use Rattle.linear.proofs.Bridge.{Entered, refuses, starts, turns}
 use Rattle.linear.proofs.FreshState.{FreshState}
 use Rattle.linear.proofs.Invariant.{In}
 use Rattle.linear.proofs.Members.{whole}
-use Rattle.linear.proofs.Timeline.{sound, begun-at, has, start, entered-at, always, Schedule, freshSchedule, arena, state, last, starts-at, call-at, calls-of, in-order-of}
+use Rattle.linear.proofs.Timeline.{sound, Begun, begun-at, has, start, entered-at, always, Schedule, freshSchedule, arena, state, last, starts-at, call-at, calls-of, in-order-of}
 use Rattle.linear.proofs.Keys.{absent-of}
 use Rattle.worker.specs.declared.report.Report.{Report}
-use Rattle.linear.proofs.Points.{fate}
+use Rattle.linear.proofs.Points.{Fate, fate}
 use Rattle.linear.proofs.Tellings.{Telling, told-answer}
 use Rattle.linear.proofs.Calls.{Told, open-yet, pointed, told, own-points}
 use Rattle.linear.proofs.Openings.{changes}
@@ -56,18 +56,16 @@ module _ (r : Schedule) where
       later zero low high starting same = absurd (omega arith)
       later (suc time) low high starting same = (time, starting, omega arith, same)
 
-  -- so it is known what is told of it, and what its worker reports at its finish
-  told-of : {call : Call} → List·Memᴰ call (calls-of r) → Told r call
-  told-of m =
+  -- so it has what follows from what becomes of it
+  each-call : (P : Call → Type 0) → ((time : ℕ) (b : Begun r time) → Fate r time b → P (call-at r (suc time))) →
+      {call : Call} → List·Memᴰ call (calls-of r) → P call
+  each-call P holds m =
       let (time, starting, upto, same) = call-of m in
       let b = begun-at r time starting in
-      subst (Told r) (sym same) (told r time b (fate r time b upto))
+      subst P (sym same) (holds time b (fate r time b upto))
 
-  tells-of : {call : Call} → List·Memᴰ call (calls-of r) → Telling r call
-  tells-of m =
-      let (time, starting, upto, same) = call-of m in
-      let b = begun-at r time starting in
-      subst (Telling r) (sym same) (told-answer r time b (fate r time b upto))
+  told-of : {call : Call} → List·Memᴰ call (calls-of r) → Told r call
+  told-of = each-call (Told r) (told r)
 
   -- of the calls in order: each is one of the calls and has a point
   of-order : {call : Call} → List·Memᴰ call (in-order-of r) → List·Memᴰ call (calls-of r) × (hasPoint call ≡ true)
@@ -130,7 +128,7 @@ module _ (r : Schedule) where
         started-before = λ call m. started (told-of m);
         reached-before = λ call m. reached (told-of m);
         answered-there = λ call m. answers (told-of m);
-        told-answer = λ call m. tells-of m;
+        told-answer = λ call m. each-call (Telling r) (told-answer r) m;
         same-keys = rising-same _ _ (whole .1) (set-rises (arena r (last r))) (whole .2);
       }
     where

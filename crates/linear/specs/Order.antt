@@ -20,7 +20,7 @@ rank call = cond (isLate (call .operation) (call .answer)) (suc (call .worker)) 
 abbrev pub Before : Call → Call → Type 0
 Before a b = (a .point < b .point) ⊎ ((a .point ≡ b .point) × (rank a ≤ rank b))
 
--- tested
+-- the same, tested
 unfoldable pub goesBefore : Call → Call → Bool
 goesBefore a b = ltb (a .point) (b .point) || (eqb (a .point) (b .point) && leb (rank a) (rank b))
 
