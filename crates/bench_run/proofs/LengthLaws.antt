@@ -11,6 +11,7 @@ use lib.Dec.{leb, eqb}
 use Rattle.worker.specs.Worker.{add, remove}
 use Rattle.worker.specs.Refusals.{Refusal, judged}
 use Rattle.arena.specs.Replies.{Reply, refused, accepted, replied}
+use Rattle.arena.specs.Init.{freshWords}
 use Rattle.arena.specs.Snapshot.{keysOf}
 use Rattle.arena.proofs.Bounds.{counts}
 use Rattle.arena.proofs.Judged.{judged-refused, judged-accepted}
@@ -26,7 +27,6 @@ use Rattle.schedule.proofs.Running.{calls-fit}
 use Rattle.bench_input.specs.Bytes.{bytesOf}
 use Rattle.bench_input.specs.Input.{Reading, planned, badLine, readingOf}
 use Rattle.bench_print.specs.Print.{Printed, digitAt, decimal, labelled, badLineText, refusedText, totalsText, operationText, answerText, callText, keysText, rollText}
-use Rattle.arena.specs.Init.{freshWords}
 use Rattle.bench_run.specs.Output.{arenaWords, recordCount, runText, scheduleText, readingText, outputOf}
 
 digit-short : (place n : ℕ) → length (digitAt place n) ≤ 1

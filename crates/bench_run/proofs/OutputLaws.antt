@@ -17,6 +17,7 @@ use Rattle.worker.specs.declared.report.Turned.the-variants as turned
 use Rattle.arena.specs.Layout.{layoutNumber, nodeWidth, goodCounts, total}
 use Rattle.arena.specs.Records.{withWorker}
 use Rattle.arena.specs.Replies.{refused, accepted, replied}
+use Rattle.arena.specs.Init.{freshWords}
 use Rattle.arena.specs.Start.{startRefusals, startArena}
 use Rattle.arena.specs.Snapshot.{keysOf, snapshotRefusals}
 use Rattle.arena.proofs.Bounds.{counts}
@@ -40,7 +41,6 @@ use Rattle.bench_input.specs.Input.{Reading, planned, badLine, readingOf, parse
 use Rattle.bench_print.specs.Print.{badLineText, refusedText, totalsText, callText, rollText}
 use Rattle.bench_input.proofs.PlanLaws.{Fits, planned-sound, planned-words}
 use Rattle.bench_run.proofs.RollLaws.{roll-fits}
-use Rattle.arena.specs.Init.{freshWords}
 use Rattle.bench_run.specs.Output.{arenaWords, recordCount, runText, scheduleText, readingText, outputOf}
 
 -- no entry changes the number of the words

@@ -3,11 +3,11 @@ use Prim.Native.Nat.{ℕ}
 use mathlib.Core.List.{List, _++_, map, flatten}
 use lib.ListN.{length, replicate}
 use Rattle.worker.specs.Refusals.{judged}
+use Rattle.arena.specs.Init.{freshWords}
 use Rattle.arena.specs.Snapshot.{keysOf}
 use Rattle.linear.specs.History.{arenaAt, totals}
 use Rattle.schedule.specs.Run.{entriesOf, runRefusals, recordsOf, totalsOf}
 use Rattle.bench_input.specs.Input.{Reading, planned, badLine, readingOf}
-use Rattle.arena.specs.Init.{freshWords}
 use Rattle.bench_print.specs.Print.{badLineText, refusedText, totalsText, callText, rollText}
 
 -- its row holds 1,000 records

@@ -10,12 +10,12 @@ use borrow.Author.Tests.{ltb-true, ltb-false, eqb-true, not-false, lt-ltb, le-lt
 use Rattle.worker.specs.Refusals.{judged}
 use Rattle.arena.specs.Layout.{layoutNumber, goodCounts, total}
 use Rattle.arena.specs.Replies.{accepted, replied}
+use Rattle.arena.specs.Init.{freshWords}
 use Rattle.arena.proofs.Judged.{none-holds}
 use Rattle.linear.specs.Lists.{filter}
 use Rattle.linear.specs.History.{totals, calls}
 use Rattle.schedule.specs.declared.Call.{Call}
 use Rattle.schedule.specs.Run.{entryWidth, entriesOf, isOperation, operationsIn, isBadSchedule, runRefusals, runAnswer, runArena, recordOf, recordsOf, callWidth, flatWords}
-use Rattle.arena.specs.Init.{freshWords}
 use Rattle.schedule.proofs.EntryLaws.{entries-count}
 
 neither : (a b : Bool) → (a || b) ≡ false → (a ≡ false) × (b ≡ false)

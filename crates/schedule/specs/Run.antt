@@ -8,6 +8,7 @@ use Rattle.worker.specs.Worker.{add, contains, within}
 use Rattle.worker.specs.Refusals.{Refusal, judged, badCounts, badSchedule, shortArena, noRoom}
 use Rattle.arena.specs.Layout.{layoutNumber, goodCounts, total}
 use Rattle.arena.specs.Replies.{Reply, refused, accepted, replied, written}
+use Rattle.arena.specs.Init.{freshWords}
 use Rattle.linear.specs.Lists.{filter}
 use Rattle.linear.specs.Entries.{Entry}
 use Rattle.linear.specs.History as history
@@ -15,7 +16,6 @@ use Rattle.linear.specs.Linearizable.{Linearizable}
 use Rattle.schedule.specs.declared.Call.{Call}
 use Rattle.schedule.specs.declared.Totals.{Totals}
 use Rattle.schedule.specs.declared.Summary.{Summary}
-use Rattle.arena.specs.Init.{freshWords}
 use Rattle.schedule.specs.declared.Summary.the-variants as summary
 
 -- entries are three words: worker, act, key
