@@ -29,6 +29,9 @@ pub fn check_times(calls: &[Call]) -> Result<(), String> {
 
 /// A finished call's worker reported the answer of the call's record, and no other call's reported any.
 pub fn check_told(calls: &[Call], told: &[u16]) -> Result<(), String> {
+    if calls.len() != told.len() {
+        return Err(format!("{} calls, {} told", calls.len(), told.len()));
+    }
     for (call, &told) in calls.iter().zip(told) {
         let answer = if call.finish == 0 { 0 } else { call.answer };
         if told != answer {

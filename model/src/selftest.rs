@@ -261,6 +261,7 @@ fn told_answers(checks: &mut Checks) {
         return checks.check("the listing runs", false);
     };
     checks.check("told", check_told(&trace.calls, &trace.told).is_ok());
+    checks.check("none told", check_told(&trace.calls, &[]).is_err());
     for call in 0..trace.told.len() {
         let mut told = trace.told.clone();
         told[call] = told[call] % 3 + 1;

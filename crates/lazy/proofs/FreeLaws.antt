@@ -63,6 +63,12 @@ module _ (next : ℕ → ℕ) (count : ℕ) where
   is-free roots node h e =
       record { below = h; unreached = λ some. true≢false (sym (run-reached (some .1) (some .2)) ∙ e) }
 
+  -- and a node that is not free is reached
+  pub not-free-reached : (roots : List ℕ) (node : ℕ) → node < count → (IsFree next count roots node → ⊥) → Reached next count roots node
+  not-free-reached roots node h taken =
+      ⊎-elim (λ unreached. absurd (taken (is-free roots node h unreached))) (reached-run roots node h)
+      (dichotomy (reached next count roots node))
+
   module _ (roots : List ℕ) where
     found-from : (left from : ℕ) {node : ℕ} → lowestFrom next count roots left from ≡ free.Node node →
         (from ≤ node) × (node < from + left) × (reached next count roots node ≡ false)

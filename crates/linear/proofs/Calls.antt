@@ -48,7 +48,8 @@ module _ (r : Schedule) where
       go (closes o some time past it) = o .busy idle
       go (finished time finish past earlier it done rest none) = omega (arith, decided-once s b it x, y .begun)
 
-  -- what is told of a call at the end: it is open, without an answer; or it has a point, from its start on and before its finish, where it is placed rightly
+  -- what is told of a call at the end: it is open, without an answer; or it has a point, from its start on and before its finish, where it
+  -- is placed rightly
   pub data Told (call : Call) : Type 0 where
     open-yet : call .point ≡ 0 → call .finish ≡ 0 → call .answer ≡ 0 → Told call
     pointed : call .point ≢ 0 → call .start ≤ call .point → call .point ≤ last r → (call .finish ≡ 0) ⊎ (call .point < call .finish) →

@@ -51,7 +51,7 @@ module _ {nodes : ℕ} {s : State} {w : ℕ} {e : Effect} (act : Act nodes s w e
     late : Keeps act → s .worker w .operation ≡ contains → new .answer ≡ answerNumber No → 23 ≤ s .worker w .stage →
         (Ahead s (s .worker w .curr) (s .worker w .key) → ⊥) → Verdict
 
-  -- how a call goes on by a turn: an idle worker rests; a turn goes on, with an answer where there was one; or decides it; or finishes
+  -- how a call goes on by a turn: an idle worker rests; a turn goes on, with an answer exactly if there was one; or decides it; or finishes
   pub data Course (report : Report) : Type 0 where
     rests : Keeps act → s .worker w .stage ≡ 0 → Course report
     goes-on : Keeps act → Continues (s .worker w) new → eqb (new .answer) 0 ≡ eqb (s .worker w .answer) 0 →

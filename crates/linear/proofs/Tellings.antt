@@ -75,22 +75,22 @@ module _ (r : Schedule) (origin : ℕ) (b : Begun r origin) where
   Ends answer time = Tells (r .initial) (r .entries) v answer time
 
   -- an entry leaves a worker's answer and does not finish its call, or finishes it and tells the answer
-  data Next (now : ℕ) : Type 0 where
-    keeps : finishing r v (suc now) ≡ false → mine (suc now) .answer ≡ mine now .answer → Next now
-    tells : finishing r v (suc now) ≡ true → Ends (mine now .answer) (suc now) → Next now
+  data Goes (now : ℕ) : Type 0 where
+    keeps : finishing r v (suc now) ≡ false → mine (suc now) .answer ≡ mine now .answer → Goes now
+    tells : finishing r v (suc now) ≡ true → Ends (mine now .answer) (suc now) → Goes now
 
-  next : (now : ℕ) → mine now .stage ≢ 0 → mine now .answer ≢ 0 → Next now
+  goes : (now : ℕ) → mine now .stage ≢ 0 → mine now .answer ≢ 0 → Goes now
   unfolding arenaAt
-  next now busy some = go (entered-at r now (entry r now) (always r now)) (same? (entry r now .worker) v)
+  goes now busy some = go (entered-at r now (entry r now) (always r now)) (same? (entry r now .worker) v)
     where
       other-worker : (step : Step) → entry r now .worker ≢ v → state r (suc now) ≡ stepped (state r now) (entry r now .worker) step →
-          Next now
+          Goes now
       other-worker step other next =
           keeps (not-finished r v now (inr other))
           (ap (λ (s : State). s .worker v .answer) next ∙ rw (ne-eqb v (entry r now .worker) (λ e. other (sym e))))
 
       own-turn : entry r now .worker ≡ v → (step : Step) → outcome r now ≡ turnReported (step .report) →
-          mine (suc now) ≡ step .worker → Closes (mine now) step → Next now
+          mine (suc now) ≡ step .worker → Closes (mine now) step → Goes now
       own-turn own step event after (inl kept) =
           keeps (turn-finishes r origin b now event own ∙ kept .1) (ap (λ (w : Worker). w .answer) after ∙ kept .0)
       own-turn own step event after (inr told) =
@@ -102,7 +102,7 @@ module _ (r : Schedule) (origin : ℕ) (b : Begun r origin) where
             numbered = numbered-back (mine now .answer) (closing (always r now) v busy some .1);
           })
 
-      go : Entered (r .workers) (r .nodes) (arena r now) (entry r now) → (entry r now .worker ≡ v) ⊎ (entry r now .worker ≢ v) → Next now
+      go : Entered (r .workers) (r .nodes) (arena r now) (entry r now) → (entry r now .worker ≡ v) ⊎ (entry r now .worker ≢ v) → Goes now
       go (refuses number event same unknown) _ =
           keeps (not-finished r v now (inl (ap isFinished (outcome-is r now ∙ event)))) (ap (λ words. decode words .worker v .answer) same)
       go (starts event starting known idle call next) (inl own) = absurd (busy (subst (λ w. state r now .worker w .stage ≡ 0) own idle))
@@ -130,11 +130,11 @@ module _ (r : Schedule) (origin : ℕ) (b : Begun r origin) where
             absurd (true≢false (sym ends ∙ none (suc end) (omega (arith, decided .begun)) (omega arith)))
 
     -- so what is told at the finish is the answer of the time before, and of each time back to the decision
-    at-finish : (now : ℕ) → suc now ≡ finish → Next now → Ends (mine now .answer) finish
+    at-finish : (now : ℕ) → suc now ≡ finish → Goes now → Ends (mine now .answer) finish
     at-finish now e (keeps unfinished same) = absurd (true≢false (sym done ∙ subst (λ time. finishing r v time ≡ false) e unfinished))
     at-finish now e (tells finishes told) = subst (Ends (mine now .answer)) e told
 
-    before-finish : (now : ℕ) → suc t ≤ now → suc now < finish → Next now → Ends (mine (suc now) .answer) finish →
+    before-finish : (now : ℕ) → suc t ≤ now → suc now < finish → Goes now → Ends (mine (suc now) .answer) finish →
         Ends (mine now .answer) finish
     before-finish now low high (keeps unfinished same) told = subst (λ answer. Ends answer finish) same told
     before-finish now low high (tells finishes early) told =
@@ -142,10 +142,10 @@ module _ (r : Schedule) (origin : ℕ) (b : Begun r origin) where
 
     told-from : (left now : ℕ) → now + suc left ≡ finish → suc t ≤ now → Ends (mine now .answer) finish
     told-from zero now end low =
-        let busy = between now low (omega arith) in at-finish now (omega arith) (next now (busy .0) (busy .1))
+        let busy = between now low (omega arith) in at-finish now (omega arith) (goes now (busy .0) (busy .1))
     told-from (suc left) now end low =
         let busy = between now low (omega arith) in
-        before-finish now low (omega arith) (next now (busy .0) (busy .1)) (told-from left (suc now) (omega arith) (omega arith))
+        before-finish now low (omega arith) (goes now (busy .0) (busy .1)) (told-from left (suc now) (omega arith) (omega arith))
 
     decided-told : Ends (mine (suc t) .answer) finish
     decided-told = told-from (finish - suc (suc t)) (suc t) (omega arith) (omega arith)
