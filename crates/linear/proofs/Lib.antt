@@ -27,6 +27,7 @@ pub mod FreeNodes
 pub mod FreshInvariant
 pub mod Members
 pub mod Timeline
+pub mod Rests
 pub mod Keys
 pub mod Phases
 pub mod Points

@@ -6,7 +6,7 @@ use mathlib.Core.Bool.{Bool, true, false, cond, true≢false}
 use native.Mathlib.Omega.{arith}
 use lib.ListN.{getD}
 use lib.Dec.{eqb}
-use borrow.Author.Tests.{eqb-true, eq-eqb, ne-eqb}
+use borrow.Author.Tests.{eqb-true}
 use Rattle.worker.specs.Worker.{within}
 use Rattle.worker.specs.Report.{numberedAnswer}
 use Rattle.worker.specs.Stages.{reports, stageTable, stepOf}
@@ -18,16 +18,15 @@ use Rattle.worker.proofs.Laws.{range-bounds}
 use Rattle.worker.proofs.ReportLaws.{numbered-back}
 use Rattle.worker.proofs.TurnLaws.{step-row}
 use Rattle.linear.specs.Entries.{turnReported, isFinished}
-use Rattle.linear.specs.History.{Call, arenaAt, finishOf, callAt}
+use Rattle.linear.specs.History.{Call, finishOf, callAt}
 use Rattle.linear.specs.Linearizable.{Tells}
 use Rattle.linear.proofs.ListLaws.{first-holds}
 use Rattle.linear.proofs.Reach.{same?}
-use Rattle.linear.proofs.State.{State, decode, stepped, startStep, seenIn, turnStep}
-use Rattle.linear.proofs.Bridge.{Entered, refuses, starts, turns}
+use Rattle.linear.proofs.State.{State, seenIn}
 use Rattle.linear.proofs.Promises.{hasAnswer}
 use Rattle.linear.proofs.Invariant.{Inv}
 use Rattle.linear.proofs.TurnKinds.{sane-parts}
-use Rattle.linear.proofs.Timeline.{Schedule, Begun, arena, state, entry, outcome, outcome-is, entered-at, always, finishing, call-at, last}
+use Rattle.linear.proofs.Timeline.{Schedule, Begun, For, not-its, its-start, its-turn, entry-for, step-at, state, last, entry, outcome, always, finishing, call-at}
 use Rattle.linear.proofs.Phases.{not-finished, turn-finishes, Decided, Phase, runs, closes, finished, phase-at}
 use Rattle.linear.proofs.Points.{made, answerAt, Fate, waits, acted, looked}
 
@@ -80,41 +79,29 @@ module _ (r : Schedule) (origin : ℕ) (b : Begun r origin) where
     tells : finishing r v (suc now) ≡ true → Ends (mine now .answer) (suc now) → Goes now
 
   goes : (now : ℕ) → mine now .stage ≢ 0 → mine now .answer ≢ 0 → Goes now
-  unfolding arenaAt
-  goes now busy some = go (entered-at r now (entry r now) (always r now)) (same? (entry r now .worker) v)
+  goes now busy some = go (entry-for r now v)
     where
-      other-worker : (step : Step) → entry r now .worker ≢ v → state r (suc now) ≡ stepped (state r now) (entry r now .worker) step →
-          Goes now
-      other-worker step other next =
-          keeps (not-finished r v now (inr other))
-          (ap (λ (s : State). s .worker v .answer) next ∙ rw (ne-eqb v (entry r now .worker) (λ e. other (sym e))))
+      late : (hasAnswer (mine now .stage) ≡ true) × (within 1 3 (mine now .answer) ≡ true)
+      late = closing (always r now) v busy some
 
-      own-turn : entry r now .worker ≡ v → (step : Step) → outcome r now ≡ turnReported (step .report) →
-          mine (suc now) ≡ step .worker → Closes (mine now) step → Goes now
-      own-turn own step event after (inl kept) =
+      own-turn : entry r now .worker ≡ v → outcome r now ≡ turnReported (step-at r now v .report) →
+          mine (suc now) ≡ step-at r now v .worker → Closes (mine now) (step-at r now v) → Goes now
+      own-turn own event after (inl kept) =
           keeps (turn-finishes r origin b now event own ∙ kept .1) (ap (λ (w : Worker). w .answer) after ∙ kept .0)
-      own-turn own step event after (inr told) =
+      own-turn own event after (inr told) =
           tells (turn-finishes r origin b now event own ∙ ap (λ report. isFinished (turnReported report)) told)
           (record {
             answer = numberedAnswer (mine now .answer);
             own = own;
             event = event ∙ ap turnReported told;
-            numbered = numbered-back (mine now .answer) (closing (always r now) v busy some .1);
+            numbered = numbered-back (mine now .answer) (late .1);
           })
 
-      go : Entered (r .workers) (r .nodes) (arena r now) (entry r now) → (entry r now .worker ≡ v) ⊎ (entry r now .worker ≢ v) → Goes now
-      go (refuses number event same unknown) _ =
-          keeps (not-finished r v now (inl (ap isFinished (outcome-is r now ∙ event)))) (ap (λ words. decode words .worker v .answer) same)
-      go (starts event starting known idle call next) (inl own) = absurd (busy (subst (λ w. state r now .worker w .stage ≡ 0) own idle))
-      go (starts event starting known idle call next) (inr other) = other-worker (startStep (entry r now .act) (entry r now .key)) other next
-      go (turns event turning known next) (inr other) =
-          other-worker (turnStep (r .workers) (r .nodes) (state r now) (entry r now .worker)) other next
-      go (turns event turning known next) (inl own) =
-          let w = entry r now .worker in
-          own-turn own (turnStep (r .workers) (r .nodes) (state r now) w) (outcome-is r now ∙ event)
-          (ap (λ (s : State). s .worker v) next ∙ rw (eq-eqb v w (sym own)))
-          (subst (λ u. Closes (mine now) (turnStep (r .workers) (r .nodes) (state r now) u)) (sym own)
-          (step-closes (mine now) (suc v) (seenIn (r .workers) (r .nodes) (state r now) v) (closing (always r now) v busy some .0)))
+      go : For r now v → Goes now
+      go (not-its apart same) = keeps (not-finished r v now apart) (ap (λ (w : Worker). w .answer) same)
+      go (its-start idle started) = absurd (busy idle)
+      go (its-turn own event after) =
+          own-turn own event after (step-closes (mine now) (suc v) (seenIn (r .workers) (r .nodes) (state r now) v) (late .0))
 
   -- of a call that is decided by the entry after a time, and finishes
   module _ (t finish : ℕ) (it : Decided r origin b t) (later : suc t < finish) (done : finishing r v finish ≡ true)

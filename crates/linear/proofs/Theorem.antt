@@ -12,7 +12,7 @@ use Rattle.linear.specs.Lists.{filter, Pairs}
 use Rattle.linear.specs.Entries.{Entry, turnReported, entryRefused}
 use Rattle.linear.specs.History.{Call, entryAt, arenaAt, eventAt, calls}
 use Rattle.linear.specs.Order.{hasPoint, rank, inOrder, Before}
-use Rattle.linear.specs.Linearizable.{Linearizable, Unbroken, ExactSets}
+use Rattle.linear.specs.Linearizable.{Linearizable, Unbroken, ExactSets, Resting}
 use Rattle.linear.proofs.ListLaws.{from-filter, from-map, from-times, each-of, pairs-mapped, pairs-filter, pairs-weaken}
 use Rattle.linear.proofs.OrderLaws.{from-sorted, sorted-pairs}
 use Rattle.linear.proofs.SetLaws.{rising-same, set-rises, set-members}
@@ -23,6 +23,7 @@ use Rattle.linear.proofs.FreshState.{FreshState}
 use Rattle.linear.proofs.Invariant.{In}
 use Rattle.linear.proofs.Members.{whole}
 use Rattle.linear.proofs.Timeline.{sound, Begun, begun-at, has, start, entered-at, always, Schedule, freshSchedule, arena, state, last, starts-at, call-at, calls-of, in-order-of}
+use Rattle.linear.proofs.Rests.{all-rest}
 use Rattle.linear.proofs.Keys.{absent-of}
 use Rattle.worker.specs.declared.report.Report.{Report}
 use Rattle.linear.proofs.Points.{Fate, fate}
@@ -172,3 +173,7 @@ unbroken workers nodes entries good = unmet (freshSchedule workers nodes entries
 -- and at every time its chain is whole, and its set is that of document 01's words
 pub exact-sets : (workers nodes : ℕ) (entries : List Entry) → goodCounts workers nodes ≡ true → ExactSets (freshWords workers nodes) entries
 exact-sets workers nodes entries good = sets-exact (freshSchedule workers nodes entries good)
+
+-- and an idle worker has the idle record
+pub resting : (workers nodes : ℕ) (entries : List Entry) → goodCounts workers nodes ≡ true → Resting (freshWords workers nodes) entries
+resting workers nodes entries good = all-rest (freshSchedule workers nodes entries good)

@@ -1,13 +1,14 @@
 -- The states of a list of entries, one for each time, and what happens between two of them.
 use Prim.Native.Nat.{ℕ, zero, suc, _≤_, _<_}
 use mathlib.Core.Path.{_≡_, sym, ap, subst, _∙_}
+use mathlib.Core.Logic.{_⊎_, inl, inr, _≢_}
 use mathlib.Core.List.{List}
 use mathlib.Core.Bool.{Bool, true, false, true≢false}
 use native.Mathlib.Omega.{arith}
 use native.Mathlib.Numerals.{sub-one}
 use lib.ListN.{length}
-use borrow.Author.Tests.{lt-ltb, le-ltb}
-use Rattle.worker.specs.Worker.{isCall, idleWorker}
+use borrow.Author.Tests.{eq-eqb, ne-eqb, lt-ltb, le-ltb}
+use Rattle.worker.specs.Worker.{isCall, idleWorker, startedWorker}
 use Rattle.worker.specs.declared.report.Report.{Report}
 use Rattle.worker.specs.declared.report.Step.{Step}
 use Rattle.worker.proofs.TurnLaws.{step-row}
@@ -20,6 +21,7 @@ use Rattle.linear.specs.Sets.{setOf}
 use Rattle.linear.specs.Entries.{Entry, Event, callStarted, turnReported, entryRefused, isStarted, isReported, isFinished, eventOf}
 use Rattle.linear.specs.History.{Call, entryAt, arenaAt, eventAt, decidesAt, finishesAt, startsAt, callAt, calls}
 use Rattle.linear.specs.Order.{inOrder}
+use Rattle.linear.proofs.Reach.{same?}
 use Rattle.linear.proofs.State.{State, decode, stepped, startStep, turnStep}
 use Rattle.linear.proofs.Bridge.{Sound, Entered, refuses, starts, turns, entered, after-sound}
 use Rattle.linear.proofs.FreshState.{FreshState, fresh-sound, fresh-state}
@@ -126,6 +128,14 @@ module _ (r : Schedule) where
   pub entered-at : (time : ℕ) (x : Entry) → Inv (r .nodes) (state time) → Entered (r .workers) (r .nodes) (arena time) x
   entered-at time x inv = entered (sound time) (λ w known. passes inv (r .workers) w) x
 
+  -- a worker's step, if it had the turn, and what its row of the table says of it
+  abbrev pub step-at : ℕ → ℕ → Step
+  step-at time w = turnStep (r .workers) (r .nodes) (state time) w
+
+  pub row-of : (time w : ℕ) → Inv (r .nodes) (state time) → Row (r .nodes) (state time) w (step-at time w)
+  row-of time w inv =
+      turn-row inv w (r .workers) (λ n e. free-not-live inv (r .workers) (idle-past time) e) (stage-below inv w)
+
   happening : (time : ℕ) → Inv (r .nodes) (state time) → Entered (r .workers) (r .nodes) (arena time) (entry time) → Happens time
   unfolding arenaAt
   happening time inv (refuses number event same known) =
@@ -134,8 +144,7 @@ module _ (r : Schedule) where
   happening time inv (starts event turning known idle call next) = start (outcome-is time ∙ event) idle call known next
   happening time inv (turns event turning known next) =
       let w = entry time .worker in
-      turn (turnStep (r .workers) (r .nodes) (state time) w) (outcome-is time ∙ event)
-      (turn-row inv w (r .workers) (λ n e. free-not-live inv (r .workers) (idle-past time) e) (stage-below inv w))
+      turn (step-at time w) (outcome-is time ∙ event) (row-of time w inv)
       (λ idle. ap (λ (step : Step). step .worker) (step-row (state time .worker w) _ _ idle)) next
 
   inv-next : (time : ℕ) → Inv (r .nodes) (state time) → Happens time → Inv (r .nodes) (state (suc time))
@@ -191,3 +200,33 @@ module _ (r : Schedule) where
           ap isFinished (outcome-is time ∙ is)
           ∙ ap (λ (step : Step). isFinished (turnReported (step .report)))
           (step-row (state time .worker (entry time .worker)) _ _ idle)
+
+  -- what an entry is to a worker: none of its own, and its record stays; its start; or its turn
+  pub data For (time v : ℕ) : Type 0 where
+    not-its : (isFinished (outcome time) ≡ false) ⊎ (entry time .worker ≢ v) → state (suc time) .worker v ≡ state time .worker v → For time v
+    its-start : state time .worker v .stage ≡ 0 → state (suc time) .worker v ≡ startedWorker (entry time .act) (entry time .key) → For time v
+    its-turn : entry time .worker ≡ v → outcome time ≡ turnReported (step-at time v .report) →
+        state (suc time) .worker v ≡ step-at time v .worker → For time v
+
+  pub entry-for : (time v : ℕ) → For time v
+  unfolding arenaAt
+  entry-for time v = go (entered-at time (entry time) (always time)) (same? (entry time .worker) v)
+    where
+      other-stays : (step : Step) → entry time .worker ≢ v → state (suc time) ≡ stepped (state time) (entry time .worker) step → For time v
+      other-stays step other next =
+          not-its (inr other) (ap (λ (s : State). s .worker v) next ∙ rw (ne-eqb v (entry time .worker) (λ e. other (sym e))))
+
+      own-is : (step : Step) → entry time .worker ≡ v → state (suc time) ≡ stepped (state time) (entry time .worker) step →
+          state (suc time) .worker v ≡ step .worker
+      own-is step own next = ap (λ (s : State). s .worker v) next ∙ rw (eq-eqb v (entry time .worker) (sym own))
+
+      go : Entered (r .workers) (r .nodes) (arena time) (entry time) → (entry time .worker ≡ v) ⊎ (entry time .worker ≢ v) → For time v
+      go (refuses number event same unknown) _ =
+          not-its (inl (ap isFinished (outcome-is time ∙ event))) (ap (λ words. decode words .worker v) same)
+      go (starts event starting known idle call next) (inl own) =
+          its-start (subst (λ w. state time .worker w .stage ≡ 0) own idle) (own-is (startStep (entry time .act) (entry time .key)) own next)
+      go (starts event starting known idle call next) (inr other) = other-stays (startStep (entry time .act) (entry time .key)) other next
+      go (turns event turning known next) (inl own) =
+          its-turn own (outcome-is time ∙ event ∙ ap (λ w. turnReported (step-at time w .report)) own)
+          (own-is (step-at time (entry time .worker)) own next ∙ ap (λ w. step-at time w .worker) own)
+      go (turns event turning known next) (inr other) = other-stays (step-at time (entry time .worker)) other next

@@ -5,10 +5,13 @@ use mathlib.Core.Logic.{_≢_, _↔_}
 use mathlib.Core.List.{List, [], List·Memᴰ, map}
 use mathlib.Core.Bool.{true}
 use lib.ListN.{length}
+use Rattle.worker.specs.Worker.{idleStage, idleWorker}
 use Rattle.worker.specs.Refusals.{brokenRecord, brokenChain}
 use Rattle.worker.specs.Report.{answerNumber}
 use Rattle.worker.specs.declared.report.Answer.{Answer}
 use Rattle.worker.specs.declared.report.Report.the-variants.{Finished}
+use Rattle.arena.specs.Layout.{workersOf}
+use Rattle.arena.specs.Records.{workerAt}
 use Rattle.linear.specs.Lists.{member}
 use Rattle.linear.specs.Sets.{ChainWhole, setOf, InSet}
 use Rattle.linear.specs.Entries.{Entry, isTurn, turnReported, entryRefused}
@@ -55,3 +58,9 @@ module _ (initial : List ℕ) (entries : List Entry) where
       (time : ℕ) →
       ChainWhole (arenaAt initial entries time)
       × ((key : ℕ) → (member key (setOf (arenaAt initial entries time)) ≡ true) ↔ InSet (arenaAt initial entries time) key)
+
+  -- and an idle worker has the idle record, so it keeps no node from being free
+  abbrev pub Resting : Type 0
+  Resting =
+      (time worker : ℕ) → worker < workersOf (arenaAt initial entries time) →
+      workerAt (arenaAt initial entries time) worker .stage ≡ idleStage → workerAt (arenaAt initial entries time) worker ≡ idleWorker
