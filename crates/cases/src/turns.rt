@@ -24,8 +24,10 @@ fn show_report(report: Report) {
             io::write_all(1, b" moved");
             show_word(stage);
         }
-        Report::Waits => {
+        Report::Waits(node, worker) => {
             io::write_all(1, b" waits");
+            show_word(node);
+            show_word(worker);
         }
         Report::Finished(answer) => {
             io::write_all(1, b" finished");
@@ -80,7 +82,7 @@ fn goes_on(outcome: Outcome) -> bool {
 fn is_under_way(report: Report) -> bool {
     match report {
         Report::Moved(_) => true,
-        Report::Waits => true,
+        Report::Waits(_, _) => true,
         Report::Idle => false,
         Report::Finished(_) => false,
     }

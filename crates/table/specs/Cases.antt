@@ -3,6 +3,7 @@
 use Prim.Native.Nat.{ℕ, zero, suc}
 use mathlib.Core.List.{List, [], _∷_}
 use lib.ListN.{replicate}
+use Rattle.worker.specs.Node.{head}
 use Rattle.worker.specs.Worker.{add, remove, contains}
 use Rattle.worker.specs.Refusals.{shortArena, busy, badCall, badCounts}
 use Rattle.worker.specs.Report.{reportValues}
@@ -101,8 +102,8 @@ cases =
     ∷ row 28 (stored contains) (turns 0 6) (reportReply (Finished Yes))
     ∷ row 28 (stored remove) (turns 0 15) (reportReply (Finished Yes))
     ∷ row 28 (stored add) (turns 0 12) (reportReply (Finished No))
-    -- two adds on an empty set, worker 0 at stage 7: worker 1 at 6 waits
+    -- two adds on an empty set, worker 0 at stage 7: worker 1 at 6 waits for Head, which worker 0 owns
     ∷ row 36 twoAdds (look 8) (accepted (7 ∷ []))
     ∷ row 36 twoAdds (look 16) (accepted (6 ∷ []))
-    ∷ row 36 twoAdds (turns 1 1) (reportReply Waits)
+    ∷ row 36 twoAdds (turns 1 1) (reportReply (Waits head 0))
     ∷ []

@@ -1,5 +1,5 @@
 -- A turn that is done writes only to nodes that there are.
-use Prim.Native.Nat.{ℕ, _<_}
+use Prim.Native.Nat.{ℕ, _-_, _<_}
 use mathlib.Core.Path.{_≡_, subst, sym, _∙_}
 use mathlib.Core.List.{[]}
 use mathlib.Core.Bool.{Bool, true, false, cond, _&&_}
@@ -62,8 +62,8 @@ module _ (w : Worker) (owner : ℕ) (seen : Seen) where
       then (λ e. tt)
       then (λ e. tt)
       then (λ e. tt)
-      then (λ e. locks-below (eqb (seen .pred .owner) 0) (w .pred) 7 (pred-below _ _ e))
-      then (λ e. locks-below (eqb (seen .curr .owner) 0) (w .curr) 8 (curr-below _ e))
+      then (λ e. locks-below (eqb (seen .pred .owner) 0) (w .pred) (seen .pred .owner) 7 (pred-below _ _ e))
+      then (λ e. locks-below (eqb (seen .curr .owner) 0) (w .curr) (seen .curr .owner) 8 (curr-below _ e))
       then (λ e. tt)
       then (λ e. tt)
       then (λ e. tt)
@@ -84,10 +84,11 @@ module _ (w : Worker) (owner : ℕ) (seen : Seen) where
       then (λ e. tt)
       then end
     where
-      locks-below : (unowned : Bool) (node stage : ℕ) → node < seen .count →
-          EffectBelow (seen .count) (cond unowned (goes w stage (SetOwner node owner)) (reports w Waits) .effect)
-      locks-below true node stage below = below
-      locks-below false node stage below = tt
+      locks-below : (unowned : Bool) (node holder stage : ℕ) → node < seen .count →
+          EffectBelow (seen .count)
+          (cond unowned (goes w stage (SetOwner node owner)) (reports w (Waits node (holder - 1))) .effect)
+      locks-below true node holder stage below = below
+      locks-below false node holder stage below = tt
 
       decides-below : (adds found : Bool) →
           EffectBelow (seen .count) (cond adds (cond found (denies w 19) (to w 14)) (cond found (to w 16) (denies w 19)) .effect)

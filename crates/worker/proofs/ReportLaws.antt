@@ -18,13 +18,13 @@ reportOf : List ℕ → Report
 reportOf values =
     let kind = getD values 0 0 in
     let value = getD values 1 0 in
-    cond (eqb kind 0) Idle (cond (eqb kind 1) (Moved value) (cond (eqb kind 2) Waits (Finished (numberedAnswer value))))
+    cond (eqb kind 0) Idle (cond (eqb kind 1) (Moved value) (cond (eqb kind 2) (Waits value (getD values 2 0)) (Finished (numberedAnswer value))))
 
 read-back : (report : Report) → reportOf (reportValues report) ≡ report
 unfolding reportOf
 read-back Idle = refl
 read-back (Moved stage) = refl
-read-back Waits = refl
+read-back (Waits node worker) = refl
 read-back (Finished Yes) = refl
 read-back (Finished No) = refl
 read-back (Finished Full) = refl

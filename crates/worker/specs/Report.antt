@@ -18,16 +18,17 @@ answerNumber answer.Full = 3
 abbrev pub numberedAnswer : ℕ → Answer
 numberedAnswer number = cond (eqb number 1) answer.Yes (cond (eqb number 2) answer.No answer.Full)
 
--- a report: idle, moved (with the new stage), waits, or finished (with its answer), in document 01's order
+-- a report: idle, moved (with the new stage), waits (with the node wanted and the worker that owns it), or finished (with its answer), in
+-- document 01's order
 abbrev pub reportValues : Report → List ℕ
 reportValues report.Idle = 0 ∷ []
 reportValues (report.Moved stage) = 1 ∷ stage ∷ []
-reportValues report.Waits = 2 ∷ []
+reportValues (report.Waits node worker) = 2 ∷ node ∷ worker ∷ []
 reportValues (report.Finished answer) = 3 ∷ answerNumber answer ∷ []
 
 -- the reports of a turn that changes nothing
 abbrev pub isStill : Report → Bool
 isStill report.Idle = true
 isStill (report.Moved stage) = false
-isStill report.Waits = true
+isStill (report.Waits node worker) = true
 isStill (report.Finished answer) = false

@@ -1,5 +1,5 @@
 -- The stage table (document 01: Stages): what a turn does at each stage.
-use Prim.Native.Nat.{ℕ}
+use Prim.Native.Nat.{ℕ, _-_}
 use mathlib.Core.List.{List, [], _∷_}
 use mathlib.Core.Bool.{Bool, cond}
 use lib.ListN.{getD}
@@ -59,9 +59,10 @@ goes w stage effect = record { worker = withStage w stage; report = Moved stage;
 abbrev pub to : Worker → ℕ → Step
 to w stage = goes w stage Nothing
 
--- owner of a node 0: take it, to a stage; else waits
+-- owner of a node 0: take it, to a stage; else waits for the node and the worker that owns it (owner word less 1)
 abbrev pub locks : Worker → ℕ → ℕ → ℕ → ℕ → Step
-locks w node holder owner stage = cond (eqb holder 0) (goes w stage (SetOwner node owner)) (reports w Waits)
+locks w node holder owner stage =
+    cond (eqb holder 0) (goes w stage (SetOwner node owner)) (reports w (Waits node (holder - 1)))
 
 -- owner of a node := 0, to a stage
 abbrev pub unlocks : Worker → ℕ → ℕ → Step
@@ -100,9 +101,9 @@ module _ (w : Worker) (owner : ℕ) (seen : Seen) where
       ∷ to (withPred w (w .curr)) 5
       -- 5: curr := next of curr; to 3
       ∷ to (withCurr w (seen .curr .next)) 3
-      -- 6: owner of pred 0: take it, to 7; else waits
+      -- 6: owner of pred 0: take it, to 7; else waits for pred and its owner
       ∷ locks w (w .pred) (seen .pred .owner) owner 7
-      -- 7: owner of curr 0: take it, to 8; else waits
+      -- 7: owner of curr 0: take it, to 8; else waits for curr and its owner
       ∷ locks w (w .curr) (seen .curr .owner) owner 8
       -- 8: pred unmarked: to 9, else 11
       ∷ to w (cond (eqb (seen .pred .mark) 0) 9 11)

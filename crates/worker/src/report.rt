@@ -26,11 +26,11 @@ pub enum Answer {
     Full,
 }
 
-// What a turn reports: the stage it moved to, and the answer it finished with.
+// What a turn reports: the stage it moved to; the node it waits for and the worker that owns it; the answer it finished with.
 pub enum Report {
     Idle,
     Moved(u16),
-    Waits,
+    Waits(u16, u16),
     Finished(Answer),
 }
 

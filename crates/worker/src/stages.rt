@@ -124,14 +124,14 @@ impl Worker {
         self.goes(stage, Effect::Nothing)
     }
 
-    // Takes a node that nobody holds, else waits.
+    // Takes a node that nobody holds, else waits for the worker that does.
     fn locks(self, node: u16, holder: u16, owner: u16, stage: u16) -> Step
         ensures { λ r. ⌜ r ≡ locks self node holder owner stage ⌝ }
     {
         if holder == 0 {
             self.goes(stage, Effect::SetOwner(node, owner))
         } else {
-            self.reports(Report::Waits)
+            self.reports(Report::Waits(node, holder - 1))
         }
     }
 

@@ -11,4 +11,4 @@ held : tie.Need-returns-2
 held c = rw (ne-eqb _ _ (c .before .if1 .left), c .reports .ensures)
 
 pub locks-spec : {M : Type 1} → statement M
-locks-spec = tie.close (tie.spec (search needs) (search needs) taken held)
+locks-spec = tie.close (tie.spec (search needs) (search needs) (search needs) taken held)
