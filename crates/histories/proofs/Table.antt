@@ -11,16 +11,16 @@ use Rattle.arena.specs.Start.{callRefusals, startRefusals, startArena}
 use Rattle.arena.specs.Snapshot.{walk, chain}
 use Rattle.lazy.specs.Free.{rootsOf, leads, reached, lowestFrom, lowestFree}
 use Rattle.lazy.specs.Turn.{seenOf, seenBy, workerRefusals, turnOn, withEffect, turnArena}
-use Rattle.linear.specs.Lists.{filter, member, timesFrom, first}
+use Rattle.linear.specs.Lists.{filter, member, timesFrom, first, latest}
 use Rattle.linear.specs.Sets.{chainOf, setOf}
 use Rattle.linear.specs.Entries.{eventOf, after}
-use Rattle.linear.specs.History.{isDecision, entryAt, arenaAt, eventAt, finishesAt, decidesAt, absentAt, finishOf, decisionOf, answerOf, pointOf, callAt, calls, totals}
+use Rattle.linear.specs.History.{isDecision, entryAt, arenaAt, eventAt, finishesAt, decidesAt, absentAt, finishOf, decisionOf, answerOf, pointOf, callAt, calls, startsCallOf, callNumber, waitAt, waits, totals}
 use Rattle.linear.specs.Order.{goesBefore, inserted, sorted, inOrder}
 use Rattle.linear.specs.Sequential.{including, excluding, responseTo, keysAfter}
 use Rattle.histories.specs.Histories.{found, stated, forTwo, forOne, histories}
 
 pub histories-hold : map found histories ≡ map stated histories
-unfolding nodeWidth headerWords nodePart nodeFrom workerAt withWorker nodeAt isHeader headerRefusals callRefusals startRefusals startArena walk chain stepOf belongs kept placed astray busyRefusals turnRefusals turnOf rootsOf leads reached lowestFrom lowestFree seenOf seenBy workerRefusals turnOn withEffect turnArena filter member timesFrom first chainOf setOf eventOf after isDecision entryAt arenaAt eventAt finishesAt decidesAt absentAt finishOf decisionOf answerOf pointOf callAt calls totals goesBefore inserted sorted inOrder including excluding responseTo keysAfter
+unfolding nodeWidth headerWords nodePart nodeFrom workerAt withWorker nodeAt isHeader headerRefusals callRefusals startRefusals startArena walk chain stepOf belongs kept placed astray busyRefusals turnRefusals turnOf rootsOf leads reached lowestFrom lowestFree seenOf seenBy workerRefusals turnOn withEffect turnArena filter member timesFrom first latest chainOf setOf eventOf after isDecision entryAt arenaAt eventAt finishesAt decidesAt absentAt finishOf decisionOf answerOf pointOf callAt calls startsCallOf callNumber waitAt waits totals goesBefore inserted sorted inOrder including excluding responseTo keysAfter
 histories-hold = refl
 
 -- the arenas are fresh

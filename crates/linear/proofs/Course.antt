@@ -1,14 +1,15 @@
 -- What a turn comes to: for the nodes, for the worker's own promise, and for its call.
 use Prim.Native.Nat.{ℕ, _≤_}
-use mathlib.Core.Path.{_≡_}
+use mathlib.Core.Path.{_≡_, refl, sym}
 use mathlib.Core.Logic.{_⊎_, _≢_}
-use mathlib.Core.Bool.{true, false, cond}
+use mathlib.Core.Bool.{Bool, true, false, cond}
 use lib.Dec.{eqb}
 use Rattle.worker.specs.Worker.{add, remove, contains}
 use Rattle.worker.specs.Report.{answerNumber}
 use Rattle.worker.specs.declared.Worker.{Worker}
 use Rattle.worker.specs.declared.report.Answer.the-variants.{Yes, No, Full}
 use Rattle.worker.specs.declared.report.Report.{Report}
+use Rattle.worker.specs.declared.report.Report.the-variants as report
 use Rattle.worker.specs.declared.report.Step.{Step}
 use Rattle.worker.specs.declared.report.Effect.{Effect}
 use Rattle.linear.specs.Entries.{isFinished, turnReported}
@@ -23,6 +24,19 @@ use Rattle.linear.proofs.Changes.{Keeps, Adds, Takes}
 -- where a look-up stands: at Head before its first turn
 abbrev pub spot : Worker → ℕ
 spot w = cond (eqb (w .stage) 22) 0 (w .curr)
+
+-- a turn that moves does not finish
+abbrev pub isMoved : Report → Bool
+isMoved report.Idle = false
+isMoved (report.Moved stage) = true
+isMoved (report.Waits node worker) = false
+isMoved (report.Finished answer) = false
+
+pub moved-unfinished : (told : Report) → isMoved told ≡ true → isFinished (turnReported told) ≡ false
+moved-unfinished report.Idle moves = refl
+moved-unfinished (report.Moved stage) moves = refl
+moved-unfinished (report.Waits node worker) moves = refl
+moved-unfinished (report.Finished answer) moves = sym moves
 
 -- what was ahead of a look-up in one record is ahead of it in the next, and a look-up does not become one by a turn
 abbrev pub Onward : State → ℕ → Worker → Worker → Type 0
@@ -58,7 +72,7 @@ module _ {nodes : ℕ} {s : State} {w : ℕ} {e : Effect} (act : Act nodes s w e
         isDecision (s .worker w .stage) (new .answer) ≡ false → isFinished (turnReported report) ≡ false →
         Onward s (s .worker w .key) (s .worker w) new → Course report
     settles : Verdict → Continues (s .worker w) new → s .worker w .answer ≡ 0 → new .answer ≢ 0 →
-        isDecision (s .worker w .stage) (new .answer) ≡ true → isFinished (turnReported report) ≡ false → Course report
+        isDecision (s .worker w .stage) (new .answer) ≡ true → isMoved report ≡ true → Course report
     ends : Keeps act → s .worker w .stage ≡ 21 → new .stage ≡ 0 → isFinished (turnReported report) ≡ true → Course report
 
 -- all that is said of a turn

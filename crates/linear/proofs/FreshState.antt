@@ -41,6 +41,7 @@ pub record FreshState (s : State) : Type 0 where
   pub tail-key : s .key tail ≡ 65535
   pub tail-next : s .next tail ≡ tail
   pub unused : (n : ℕ) → 2 ≤ n → (s .key n ≡ 0) × (s .next n ≡ 0)
+  pub unowned : (n : ℕ) → s .owner n ≡ 0
   pub idle : (v : ℕ) → s .worker v ≡ idleWorker
 
 -- copies of some words, one after the other: each is those words
@@ -127,5 +128,11 @@ fresh-state workers nodes good =
         unused-field workers nodes good n nodeKey far (omega arith) refl,
         unused-field workers nodes good n nodeNext far (omega arith) refl,
       );
+      unowned = unowned;
       idle = idle-record workers nodes good;
     }
+  where
+    unowned : (n : ℕ) → decode (freshWords workers nodes) .owner n ≡ 0
+    unowned zero = node-field workers nodes good head nodeOwner (omega (arith, counts workers nodes good)) (omega arith)
+    unowned (suc zero) = node-field workers nodes good tail nodeOwner (omega (arith, counts workers nodes good)) (omega arith)
+    unowned (suc (suc n)) = unused-field workers nodes good (suc (suc n)) nodeOwner (omega arith) (omega arith) refl

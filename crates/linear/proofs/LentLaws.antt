@@ -18,6 +18,7 @@ use Rattle.linear.proofs.Longer.{sound-longer, state-same, unseen}
 use Rattle.linear.proofs.FreshState.{FreshState, fresh-sound, fresh-state}
 use Rattle.linear.proofs.Timeline.{Schedule, freshSchedule, sound}
 use Rattle.linear.proofs.Rests.{all-rest}
+use Rattle.linear.proofs.Waiting.{all-blocked}
 use Rattle.linear.proofs.Theorem.{proved, unmet, sets-exact}
 
 module _ (lent : List ℕ) (workers nodes : ℕ) (entries : List Entry) (accepts : initAnswer lent workers nodes ≡ accepted []) where
@@ -76,7 +77,16 @@ module _ (lent : List ℕ) (workers nodes : ℕ) (entries : List Entry) (accepts
       ap (λ words. eventOf words entry) (same-words (time - 1)) ∙ unseen-at (time - 1) entry .same-event
 
   goes-as-fresh : AsFresh lent workers nodes entries
-  goes-as-fresh = record { events = same-events; words = same-words; linearizable = proved r; unbroken = unmet r; exact-sets = sets-exact r; resting = all-rest r }
+  goes-as-fresh =
+      record {
+        events = same-events;
+        words = same-words;
+        linearizable = proved r;
+        unbroken = unmet r;
+        exact-sets = sets-exact r;
+        resting = all-rest r;
+        waiting = all-blocked r;
+      }
 
 pub as-fresh : LaidAsFresh
 as-fresh = goes-as-fresh

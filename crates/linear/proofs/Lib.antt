@@ -1,5 +1,6 @@
 -- The proof of demand 3.
 pub mod ListLaws
+pub mod Times
 pub mod OrderLaws
 pub mod SetLaws
 pub mod SequentialLaws
@@ -28,11 +29,15 @@ pub mod FreshInvariant
 pub mod Members
 pub mod Timeline
 pub mod Rests
+pub mod Locks
+pub mod Owners
 pub mod Keys
 pub mod Phases
 pub mod Points
 pub mod Tellings
 pub mod Calls
 pub mod Openings
+pub mod OpenCalls
+pub mod Waiting
 pub mod Theorem
 pub mod LentLaws

@@ -6,7 +6,8 @@ use mathlib.Core.List.{List, [], _∷_, List·Memᴰ, List·Memᴰ·head, List·
 use mathlib.Core.Bool.{Bool, true, false, cond}
 use mathlib.Mathlib.Data.Bool.Basic.{dichotomy}
 use native.Mathlib.Omega.{arith}
-use native.Mathlib.Decide.{ℕ-discrete}
+use native.Mathlib.Decide.{ℕ-discrete, decLt}
+use lib.ListN.{length}
 use Rattle.linear.specs.Lists.{filter, timesFrom, first, Each, none, _and_, Pairs, alone, _ahead_}
 
 -- a test that holds at no time is found nowhere
@@ -66,6 +67,32 @@ module _ {A : Type 0} where
   from-front : {x y : A} {xs : List A} (more : Bool) → List·Memᴰ x (cond more (y ∷ xs) xs) → ((x ≡ y) × (more ≡ true)) ⊎ List·Memᴰ x xs
   from-front true m = ⊎-elim (λ same. inl (same, refl)) inr (List·Memᴰ·cases-cons m)
   from-front false m = inr m
+
+-- where it holds at no time up to one, it is found later or not at all
+pub first-past : (test : ℕ → Bool) (time left upto : ℕ) → ((t : ℕ) → time ≤ t → t ≤ upto → test t ≡ false) →
+    (first test time left ≡ 0) ⊎ (upto < first test time left)
+unfolding first
+first-past test time zero upto fails = inl refl
+first-past test time (suc left) upto fails =
+    elim (decLt upto time) [
+      | yes later ↦
+          ⊎-elim (λ no. rw no (first-past test (suc time) left upto (λ t low high. absurd (omega arith)))) (λ yes. rw yes (inr later))
+          (dichotomy (test time))
+      | no early ↦
+          rw (fails time (omega arith) (omega arith))
+          (first-past test (suc time) left upto (λ t low high. fails t (omega arith) high))
+    ]
+
+-- no more pass a test than there are
+pub filter-shorter : {A : Type 0} (test : A → Bool) (xs : List A) → length (filter test xs) ≤ length xs
+unfolding filter
+filter-shorter test [] = omega arith
+filter-shorter {A} test (x ∷ xs) = go (test x) (filter-shorter test xs)
+  where
+    go : (passes : Bool) → length (filter test xs) ≤ length xs →
+        length (cond passes (x ∷ filter test xs) (filter test xs)) ≤ suc (length xs)
+    go true few = omega arith
+    go false few = omega arith
 
 -- what passes a test is what is in the list and passes
 pub in-filter : {A : Type 0} (test : A → Bool) {x : A} {xs : List A} → List·Memᴰ x xs → test x ≡ true → List·Memᴰ x (filter test xs)

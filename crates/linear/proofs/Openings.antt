@@ -118,15 +118,15 @@ module _ (r : Schedule) where
       go (rests keeps idle) = inl (has-kept r t v step (row .act) next keeps)
       go (goes-on keeps continues same silent unfinished onward) = inl (has-kept r t v step (row .act) next keeps)
       go (ends keeps at idle done) = inl (has-kept r t v step (row .act) next keeps)
-      go (settles (present keeps inside is) continues none-yet answer settled unfinished) =
+      go (settles (present keeps inside is) continues none-yet answer settled moves) =
           inl (has-kept r t v step (row .act) next keeps)
-      go (settles (missing keeps out is) continues none-yet answer settled unfinished) =
+      go (settles (missing keeps out is) continues none-yet answer settled moves) =
           inl (has-kept r t v step (row .act) next keeps)
-      go (settles (late-verdict keeps asks denies stage out) continues none-yet answer settled unfinished) =
+      go (settles (late-verdict keeps asks denies stage out) continues none-yet answer settled moves) =
           inl (has-kept r t v step (row .act) next keeps)
-      go (settles (goes-in it operation is) continues none-yet answer settled unfinished) =
+      go (settles (goes-in it operation is) continues none-yet answer settled moves) =
           inr (record { verdict = goes-in it operation is; unanswered = none-yet; decided = settled; update = omega arith })
-      go (settles (goes-out it operation is) continues none-yet answer settled unfinished) =
+      go (settles (goes-out it operation is) continues none-yet answer settled moves) =
           inr (record { verdict = goes-out it operation is; unanswered = none-yet; decided = settled; update = omega arith })
 
   -- a call with a point is one of those in order

@@ -23,7 +23,7 @@ use Rattle.linear.proofs.State.{State, decode, stepped, startStep}
 use Rattle.linear.proofs.Promises.{in-curr, Live, promises}
 use Rattle.linear.proofs.Invariant.{Ahead, Inv, promised, live-held, live-chain}
 use Rattle.linear.proofs.After.{own-after, others-after, live-after}
-use Rattle.linear.proofs.Course.{Row, spot, Onward, Continues, Verdict, goes-in, goes-out, present, missing, late, Course, rests, goes-on, settles, ends}
+use Rattle.linear.proofs.Course.{Row, moved-unfinished, spot, Onward, Continues, Verdict, goes-in, goes-out, present, missing, late, Course, rests, goes-on, settles, ends}
 use Rattle.linear.proofs.TurnKinds.{sane-parts}
 use Rattle.linear.proofs.Passes.{stage-below}
 use Rattle.linear.proofs.Simulation.{Does, adds, adds-not, is-full, removes, removes-not, finds}
@@ -271,13 +271,13 @@ module _ (r : Schedule) where
       own-turn (runs o undecided none look) (goes-on it continues same silent unfinished onward) =
           runs (open-next o continues unfinished) (rw after (eqb-true _ 0 (same ∙ eq-eqb _ 0 undecided))) (up-to none (decides-now silent))
           (look-next o onward look)
-      own-turn (runs o undecided none look) (settles verdict continues none-yet decided settled unfinished) =
-          closes (open-next o continues unfinished) (rw after decided) now (omega arith) (decided-now o none look verdict settled)
+      own-turn (runs o undecided none look) (settles verdict continues none-yet decided settled moves) =
+          closes (open-next o continues (moved-unfinished (step .report) moves)) (rw after decided) now (omega arith) (decided-now o none look verdict settled)
       own-turn (runs o undecided none look) (ends it last idle done) = absurd (answered inv v last undecided)
       own-turn (closes o decided time past it) (rests keeps idle) = absurd (o .busy idle)
       own-turn (closes o decided time past it) (goes-on keeps continues same silent unfinished onward) =
           closes (open-next o continues unfinished) (rw after (λ none. decided (eqb-true _ 0 (sym same ∙ eq-eqb _ 0 none)))) time (omega arith) it
-      own-turn (closes o decided time past it) (settles verdict continues none-yet answer settled unfinished) = absurd (decided none-yet)
+      own-turn (closes o decided time past it) (settles verdict continues none-yet answer settled moves) = absurd (decided none-yet)
       own-turn (closes o decided time past it) (ends keeps last idle done) =
           finished time now past (omega arith) it (finishes-now done) (rw after idle) (o .unfinished)
 

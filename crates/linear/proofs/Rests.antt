@@ -48,7 +48,7 @@ module _ (r : Schedule) where
       go : w .stage ≢ 0 → w .stage ≢ 21 → Course (row .act) (step-at r time v .worker) (step-at r time v .report) → ⊥
       go busy other (rests keeps at) = busy at
       go busy other (goes-on keeps continues same silent unfinished onward) = continues .busy idle
-      go busy other (settles verdict continues none decided settled unfinished) = continues .busy idle
+      go busy other (settles verdict continues none decided settled moves) = continues .busy idle
       go busy other (ends keeps at none done) = other at
 
   rests-next : (time v : ℕ) → Rested (state r time .worker v) → Rested (state r (suc time) .worker v)

@@ -1,5 +1,5 @@
 -- The stage table, row by row: the turns of add and remove that decide no answer, and the idle one.
-use Prim.Native.Nat.{ℕ, suc, _<_}
+use Prim.Native.Nat.{ℕ, suc, _-_, _<_}
 use mathlib.Core.Path.{_≡_, refl, sym, subst, _∙_}
 use mathlib.Core.Logic.{inl, inr, _≢_}
 use mathlib.Core.Bool.{Bool, true, false, cond}
@@ -83,7 +83,7 @@ module _ {nodes : ℕ} {s : State} (inv : Inv nodes s) (me : ℕ) where
       (sane-at inv me at (omega arith)) refl
 
   pub row-6 : (unowned : Bool) → eqb (s .owner (w .pred)) 0 ≡ unowned → w .stage ≡ 6 →
-      Row nodes s me (cond unowned (goes w 7 (SetOwner (w .pred) (suc me))) (reports w Waits))
+      Row nodes s me (cond unowned (goes w 7 (SetOwner (w .pred) (suc me))) (reports w (Waits (w .pred) (s .owner (w .pred) - 1))))
   unfolding promises belongs isDecision
   row-6 true t at =
       owns-row inv me at (omega arith) 7 (w .pred) (suc me) refl (inl (eqb-true _ _ t))
@@ -95,7 +95,7 @@ module _ {nodes : ℕ} {s : State} (inv : Inv nodes s) (me : ℕ) where
   row-6 false t at = waits inv me at refl (promised inv me at) refl
 
   pub row-7 : (unowned : Bool) → eqb (s .owner (w .curr)) 0 ≡ unowned → w .stage ≡ 7 →
-      Row nodes s me (cond unowned (goes w 8 (SetOwner (w .curr) (suc me))) (reports w Waits))
+      Row nodes s me (cond unowned (goes w 8 (SetOwner (w .curr) (suc me))) (reports w (Waits (w .curr) (s .owner (w .curr) - 1))))
   unfolding promises belongs isDecision
   row-7 true t at =
       let f = promised inv me at in

@@ -12,7 +12,7 @@ use Rattle.linear.specs.Lists.{filter, Pairs}
 use Rattle.linear.specs.Entries.{Entry, turnReported, entryRefused}
 use Rattle.linear.specs.History.{Call, entryAt, arenaAt, eventAt, calls}
 use Rattle.linear.specs.Order.{hasPoint, rank, inOrder, Before}
-use Rattle.linear.specs.Linearizable.{Linearizable, Unbroken, ExactSets, Resting}
+use Rattle.linear.specs.Linearizable.{Linearizable, Unbroken, ExactSets, Resting, Waiting}
 use Rattle.linear.proofs.ListLaws.{from-filter, from-map, from-times, each-of, pairs-mapped, pairs-filter, pairs-weaken}
 use Rattle.linear.proofs.OrderLaws.{from-sorted, sorted-pairs}
 use Rattle.linear.proofs.SetLaws.{rising-same, set-rises, set-members}
@@ -29,6 +29,7 @@ use Rattle.worker.specs.declared.report.Report.{Report}
 use Rattle.linear.proofs.Points.{Fate, fate}
 use Rattle.linear.proofs.Tellings.{Telling, told-answer}
 use Rattle.linear.proofs.Calls.{Told, open-yet, pointed, told, own-points}
+use Rattle.linear.proofs.Waiting.{all-blocked}
 use Rattle.linear.proofs.Openings.{changes}
 
 -- a refusal with another number than 6 and 7
@@ -177,3 +178,7 @@ exact-sets workers nodes entries good = sets-exact (freshSchedule workers nodes 
 -- and an idle worker has the idle record
 pub resting : (workers nodes : ℕ) (entries : List Entry) → goodCounts workers nodes ≡ true → Resting (freshWords workers nodes) entries
 resting workers nodes entries good = all-rest (freshSchedule workers nodes entries good)
+
+-- and a wait is a turn of its call, and names another worker, a busy one
+pub waiting : (workers nodes : ℕ) (entries : List Entry) → goodCounts workers nodes ≡ true → Waiting (freshWords workers nodes) entries
+waiting workers nodes entries good = all-blocked (freshSchedule workers nodes entries good)

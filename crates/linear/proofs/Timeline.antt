@@ -113,7 +113,7 @@ module _ (r : Schedule) where
   sound (suc time) = after-sound (sound time) (entry time)
 
   -- past the last worker there are idle records
-  idle-past : (time v : ℕ) → r .workers ≤ v → state time .worker v ≡ idleWorker
+  pub idle-past : (time v : ℕ) → r .workers ≤ v → state time .worker v ≡ idleWorker
   idle-past time v out = rw (sound time .workers-are, le-ltb v (r .workers) out)
 
   -- a worker that there is has its record in the arena

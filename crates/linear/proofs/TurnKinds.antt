@@ -146,13 +146,14 @@ module _ {nodes : ℕ} {s : State} (inv : Inv nodes s) (me : ℕ) where
       walks at off m (w .pred) (w .curr) (w .spare) early pred-known curr-known spare-known promise good silent
 
   -- a turn that waits changes nothing
-  pub waits : {n : ℕ} → w .stage ≡ n → within 1 14 n ≡ true →
-      promiseAt n nodes (stepped s me (reports w Waits)) me (w .key) (w .pred) (w .curr) (w .spare) → isDecision n (w .answer) ≡ false →
-      Row nodes s me (reports w Waits)
-  waits {n} at early promise silent =
+  pub waits : {n : ℕ} → w .stage ≡ n → within 1 14 n ≡ true → {node holder : ℕ} →
+      promiseAt n nodes (stepped s me (reports w (Waits node holder))) me (w .key) (w .pred) (w .curr) (w .spare) →
+      isDecision n (w .answer) ≡ false →
+      Row nodes s me (reports w (Waits node holder))
+  waits {n} at early {node} {holder} promise silent =
       let bounds = range-bounds 1 14 n early in
-      goes-row at w Waits (quiet (omega arith)) tt (steps _ _ (λ k f. f) pred-known curr-known spare-known)
-      (subst (λ k. promiseAt k nodes (stepped s me (reports w Waits)) me (w .key) (w .pred) (w .curr) (w .spare)) (sym at) promise)
+      goes-row at w (Waits node holder) (quiet (omega arith)) tt (steps _ _ (λ k f. f) pred-known curr-known spare-known)
+      (subst (λ k. promiseAt k nodes (stepped s me (reports w (Waits node holder))) me (w .key) (w .pred) (w .curr) (w .spare)) (sym at) promise)
       (inv .works me .sane-record (omega arith)) (record { busy = omega arith; operation = refl; key = refl }) refl silent refl
       (λ later. absurd (omega arith))
 

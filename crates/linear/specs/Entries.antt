@@ -1,9 +1,10 @@
 -- Entries (document 01: entries of a schedule), and what one of them does to an arena.
 use Prim.Native.Nat.{ℕ}
-use mathlib.Core.List.{List}
+use mathlib.Core.List.{List, []}
 use mathlib.Core.Bool.{Bool, true, false, cond}
 use lib.Dec.{eqb}
 use Rattle.worker.specs.Refusals.{judged}
+use Rattle.worker.specs.Report.{reportValues}
 use Rattle.worker.specs.declared.report.Report.{Report}
 use Rattle.worker.specs.declared.report.Report.the-variants as report
 use Rattle.arena.specs.Start.{startRefusals, startArena}
@@ -62,7 +63,7 @@ isWaits callStarted = false
 isWaits (entryRefused number) = false
 isWaits (turnReported report.Idle) = false
 isWaits (turnReported (report.Moved stage)) = false
-isWaits (turnReported report.Waits) = true
+isWaits (turnReported (report.Waits node worker)) = true
 isWaits (turnReported (report.Finished answer)) = false
 
 abbrev pub isFinished : Event → Bool
@@ -70,5 +71,11 @@ isFinished callStarted = false
 isFinished (entryRefused number) = false
 isFinished (turnReported report.Idle) = false
 isFinished (turnReported (report.Moved stage)) = false
-isFinished (turnReported report.Waits) = false
+isFinished (turnReported (report.Waits node worker)) = false
 isFinished (turnReported (report.Finished answer)) = true
+
+-- the values of a turn's report: of one that waits 2, the node wanted, and the worker that owns it
+abbrev pub eventValues : Event → List ℕ
+eventValues callStarted = []
+eventValues (entryRefused number) = []
+eventValues (turnReported report) = reportValues report

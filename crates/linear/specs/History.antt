@@ -1,4 +1,5 @@
--- The history of a list of entries: its times, and its calls with start, point, finish and answer, read off the entries and the stages.
+-- The history of a list of entries: its times, its calls with start, point, finish and answer, and its waits, read off the entries and the
+-- stages.
 use Prim.Native.Nat.{ℕ, zero, suc, _-_}
 use mathlib.Core.List.{List, map}
 use mathlib.Core.Bool.{Bool, cond, not, _&&_, _||_}
@@ -8,9 +9,9 @@ use Rattle.worker.specs.Worker.{contains, within}
 use Rattle.worker.specs.Report.{answerNumber}
 use Rattle.worker.specs.declared.report.Answer.the-variants.{No, Full}
 use Rattle.arena.specs.Records.{workerAt}
-use Rattle.linear.specs.Lists.{filter, member, timesFrom, first}
+use Rattle.linear.specs.Lists.{filter, member, timesFrom, first, latest}
 use Rattle.linear.specs.Sets.{setOf}
-use Rattle.linear.specs.Entries.{Entry, Event, eventOf, after, isStarted, isReported, isRefused, isWaits, isFinished}
+use Rattle.linear.specs.Entries.{Entry, Event, eventOf, after, isStarted, isReported, isRefused, isWaits, isFinished, eventValues}
 
 -- a call record: worker, operation, key, start, point, finish, answer; 0 stands for a point or finish not reached, and for the answer
 -- of a call without a point
@@ -22,6 +23,14 @@ pub record Call : Type 0 where
   pub point : ℕ
   pub finish : ℕ
   pub answer : ℕ
+
+-- a wait (document 02, A1): the number of the call whose turn it was, counted from 0 in order of start; its time; the node wanted; and the
+-- worker in the way
+pub record Wait : Type 0 where
+  pub call : ℕ
+  pub time : ℕ
+  pub node : ℕ
+  pub worker : ℕ
 
 -- the totals of a list: entries, refused entries, turns that reported waits, and calls
 pub record Totals : Type 0 where
@@ -119,6 +128,33 @@ module _ (initial : List ℕ) (entries : List Entry) where
   -- the calls: one for each accepted start, in order of start
   unfoldable pub calls : List Call
   calls = map callAt (filter startsAt times)
+
+  -- entry k starts a call of the worker
+  unfoldable pub startsCallOf : ℕ → ℕ → Bool
+  startsCallOf worker time = startsAt time && eqb (entryAt entries time .worker) worker
+
+  -- the number of the call that a worker is at when entry k comes: how many calls were started before that one, the worker's latest
+  unfoldable pub callNumber : ℕ → ℕ → ℕ
+  callNumber worker time =
+      let start = latest (startsCallOf worker) (time - 1) in
+      length (filter startsAt (timesFrom 1 (start - 1)))
+
+  -- the wait at a time at which a turn waits
+  abbrev pub waitsAt : ℕ → Bool
+  waitsAt time = isWaits (eventAt time)
+
+  unfoldable pub waitAt : ℕ → Wait
+  waitAt time =
+      record {
+        call = callNumber (entryAt entries time .worker) time;
+        time = time;
+        node = getD (eventValues (eventAt time)) 1 0;
+        worker = getD (eventValues (eventAt time)) 2 0;
+      }
+
+  -- the waits: one for each turn that waits, by time
+  unfoldable pub waits : List Wait
+  waits = map waitAt (filter waitsAt times)
 
   -- how many entries come to an event of a kind
   abbrev pub countOf : (Event → Bool) → ℕ

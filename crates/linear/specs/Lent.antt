@@ -9,7 +9,7 @@ use Rattle.arena.specs.Header.{headerRefusals}
 use Rattle.arena.specs.Init.{freshWords, initAnswer, initArena}
 use Rattle.linear.specs.Entries.{Entry, eventOf, after}
 use Rattle.linear.specs.History.{arenaAt, eventAt}
-use Rattle.linear.specs.Linearizable.{Linearizable, Unbroken, ExactSets, Resting}
+use Rattle.linear.specs.Linearizable.{Linearizable, Unbroken, ExactSets, Resting, Waiting}
 
 -- further words behind an arena: an entry does not look at them, and they stay
 pub record Unseen (arena more : List ℕ) (entry : Entry) : Type 0 where
@@ -31,6 +31,7 @@ pub record AsFresh (lent : List ℕ) (workers nodes : ℕ) (entries : List Entry
   pub unbroken : Unbroken (initArena lent workers nodes) entries
   pub exact-sets : ExactSets (initArena lent workers nodes) entries
   pub resting : Resting (initArena lent workers nodes) entries
+  pub waiting : Waiting (initArena lent workers nodes) entries
 
 -- so it is in every slice that init accepts (`LentLaws.as-fresh`)
 abbrev pub LaidAsFresh : Type 0

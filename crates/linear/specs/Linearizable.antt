@@ -1,10 +1,10 @@
 -- Demand 3, one field for each of its sentences.
 use Prim.Native.Nat.{ℕ, _≤_, _<_}
 use mathlib.Core.Path.{_≡_}
-use mathlib.Core.Logic.{_≢_, _↔_}
+use mathlib.Core.Logic.{_≢_, _↔_, _⊎_}
 use mathlib.Core.List.{List, [], List·Memᴰ, map}
 use mathlib.Core.Bool.{true}
-use lib.ListN.{length}
+use lib.ListN.{length, getD}
 use Rattle.worker.specs.Worker.{idleStage, idleWorker}
 use Rattle.worker.specs.Refusals.{brokenRecord, brokenChain}
 use Rattle.worker.specs.Report.{answerNumber}
@@ -15,7 +15,7 @@ use Rattle.arena.specs.Records.{workerAt}
 use Rattle.linear.specs.Lists.{member}
 use Rattle.linear.specs.Sets.{ChainWhole, setOf, InSet}
 use Rattle.linear.specs.Entries.{Entry, isTurn, turnReported, entryRefused}
-use Rattle.linear.specs.History.{Call, entryAt, arenaAt, eventAt, calls}
+use Rattle.linear.specs.History.{Call, Wait, entryAt, arenaAt, eventAt, calls, waits}
 use Rattle.linear.specs.Order.{inOrder}
 use Rattle.linear.specs.Sequential.{answersTo, keysAfter}
 
@@ -64,3 +64,22 @@ module _ (initial : List ℕ) (entries : List Entry) where
   Resting =
       (time worker : ℕ) → worker < workersOf (arenaAt initial entries time) →
       workerAt (arenaAt initial entries time) worker .stage ≡ idleStage → workerAt (arenaAt initial entries time) worker ≡ idleWorker
+
+  -- of a wait
+  pub record Blocked (wait : Wait) : Type 0 where
+    -- the call with its number
+    pub call : Call
+    pub there : wait .call < length (calls initial entries)
+    pub numbered : getD (calls initial entries) (wait .call) call ≡ call
+    -- is one of the worker whose turn it was, and open then
+    pub own : call .worker ≡ entryAt entries (wait .time) .worker
+    pub started : call .start < wait .time
+    pub unfinished : (call .finish ≡ 0) ⊎ (wait .time < call .finish)
+    -- the worker in the way is one of the W workers, another one, and busy then
+    pub known : wait .worker < workersOf (arenaAt initial entries (wait .time))
+    pub another : wait .worker ≢ entryAt entries (wait .time) .worker
+    pub busy : workerAt (arenaAt initial entries (wait .time)) (wait .worker) .stage ≢ idleStage
+
+  -- and so it is of every wait
+  abbrev pub Waiting : Type 0
+  Waiting = (wait : Wait) → List·Memᴰ wait (waits initial entries) → Blocked wait

@@ -1,4 +1,5 @@
--- Lists: those that pass a test, keys that are in a list, the first time at which a test holds, and lists in which every two are related.
+-- Lists: those that pass a test, keys that are in a list, the first and the last time at which a test holds, and lists in which every two
+-- are related.
 use Prim.Native.Nat.{ℕ, zero, suc, _<_}
 use mathlib.Core.List.{List, [], _∷_}
 use mathlib.Core.Bool.{Bool, false, cond, _||_}
@@ -21,6 +22,11 @@ timesFrom time (suc left) = time ∷ timesFrom (suc time) left
 unfoldable pub first : (ℕ → Bool) → ℕ → ℕ → ℕ
 first test time zero = 0
 first test time (suc left) = let onward = first test (suc time) left in cond (test time) time onward
+
+-- the last of the times from 1 to `time` at which a test holds; 0 where it holds at none
+unfoldable pub latest : (ℕ → Bool) → ℕ → ℕ
+latest test zero = 0
+latest test (suc time) = let earlier = latest test time in cond (test (suc time)) (suc time) earlier
 
 -- what holds of every element of a list
 infixr 5 _and_
