@@ -2,16 +2,17 @@
 use Prim.Native.Nat.{ℕ, suc, _≤_, _<_}
 use mathlib.Core.Path.{_≡_, refl, sym, ap, subst, _∙_}
 use mathlib.Core.Logic.{_≢_}
-use mathlib.Core.List.{List, [], _∷_}
+use mathlib.Core.List.{List}
 use mathlib.Core.Bool.{Bool, true, false, cond, not, _&&_, and-false, true≢false}
 use native.Mathlib.Omega.{arith}
-use native.Mathlib.Decide.{ℕ-discrete, decLt}
-use lib.ListN.{length, getD, set, length-set, List·getD-eq-default, List·getD-append}
-use lib.Seq.{getD-set-same, getD-set-other, getD-append-seam}
+use native.Mathlib.Decide.{ℕ-discrete}
+use lib.ListN.{length, getD, set, length-set}
+use lib.Seq.{getD-set-same, getD-set-other}
 use lib.Dec.{eqb}
 use borrow.Author.Tests.{eq-eqb, ne-eqb}
 use Rattle.worker.specs.Worker.{contains}
 use Rattle.worker.specs.declared.report.Report.{Report}
+use Rattle.worker.specs.declared.report.Report.the-variants as report
 use Rattle.arena.specs.Layout.{workersOf}
 use Rattle.arena.specs.Records.{workerAt}
 use Rattle.arena.proofs.Bounds.{counts}
@@ -19,36 +20,29 @@ use Rattle.linear.specs.Sets.{setOf}
 use Rattle.linear.specs.Lists.{member, filter, timesFrom}
 use Rattle.linear.specs.Entries.{Event, callStarted, turnReported, entryRefused, isStarted, isReported, isRefused, isWaits}
 use Rattle.linear.specs.History.{arenaAt, eventAt}
+use Rattle.linear.proofs.Times.{passing, passing-same, passing-count}
 use Rattle.linear.proofs.Keys.{has-started}
 use Rattle.linear.proofs.Timeline.{Schedule, Begun, Happens, nothing, start, turn, happens, has, arena, state, entry, outcome, outcome-is, starts-at, sound, own-worker}
 use Rattle.linear.proofs.Phases.{Open}
+use Rattle.linear.proofs.OpenCalls.{open-before}
+use Rattle.linear.proofs.Waiting.{starts}
 use Rattle.schedule.specs.declared.book.Book.{Book}
-use Rattle.schedule.specs.Book.{newBook, withRefusal, withStart, absentFrom, looksUp, missed, withAbsent, waitBook, turnBook, nextBook, bookAfter}
-use Rattle.schedule.proofs.Times.{passing, passing-more, passing-same, passing-count}
-use Rattle.schedule.proofs.OpenCalls.{open-before}
+use Rattle.schedule.specs.Book.{newBook, withRefusal, withStart, absentFrom, looksUp, missed, nextBook, bookAfter}
 use Rattle.schedule.proofs.Missed.{missed-length, missed-at, Change, stays, leaves, turn-change, absentBy, absent-kept, absent-now, absent-stays, absent-first}
 
--- a word that is not 0 stands before the end
-pub inside : (words : List ℕ) (i : ℕ) → getD words i 0 ≢ 0 → i < length words
-inside words i some =
-    elim (decLt i (length words)) [ yes h ↦ h | no h ↦ absurd (some (List·getD-eq-default words 0 (omega arith))) ]
-
 module _ (r : Schedule) where
-  -- the starts, and the entries of a kind, up to a time
-  abbrev pub starts : ℕ → List ℕ
-  starts now = passing (starts-at r) now
-
+  -- the entries of a kind up to a time
   abbrev pub counted : (Event → Bool) → ℕ → ℕ
   counted test now = length (passing (λ time. test (eventAt (r .initial) (r .entries) time)) now)
 
   pub record Booked (now : ℕ) (book : Book) : Type 0 where
-    pub calls-are : book .calls ≡ length (starts now)
+    pub calls-are : book .calls ≡ length (starts r now)
     pub refused-are : book .refused ≡ counted isRefused now
     pub waits-are : book .waits ≡ counted isWaits now
     pub numbers : length (book .opened) ≡ 8
     pub times : length (book .absent) ≡ 8
     pub numbered : (origin : ℕ) (b : Begun r origin) → Open r origin b now →
-        getD (starts now) (getD (book .opened) (entry r origin .worker) 0) 0 ≡ suc origin
+        getD (book .opened) (entry r origin .worker) 0 ≡ length (starts r origin)
     pub missed-first : (origin : ℕ) (b : Begun r origin) → Open r origin b now → entry r origin .act ≡ contains →
         getD (book .absent) (entry r origin .worker) 0 ≡ absentBy r (entry r origin .key) (suc origin) now
 
@@ -84,8 +78,8 @@ module _ (r : Schedule) where
       before origin b o = open-before r origin b now (started-before origin b o) o
 
       numbered-kept : (origin : ℕ) (b : Begun r origin) → Open r origin b (suc now) →
-          getD (starts (suc now)) (getD (book .opened) (entry r origin .worker) 0) 0 ≡ suc origin
-      numbered-kept origin b o = rw (passing-same (starts-at r) now unstarted) (booked .numbered origin b (before origin b o))
+          getD (book .opened) (entry r origin .worker) 0 ≡ length (starts r origin)
+      numbered-kept origin b o = booked .numbered origin b (before origin b o)
 
       -- and where no key goes out, the same times
       missed-kept : ((key : ℕ) → has r now key ≡ true → has r (suc now) key ≡ true) →
@@ -131,25 +125,13 @@ module _ (r : Schedule) where
       another : (origin : ℕ) (b : Begun r origin) → Open r origin b now → entry r origin .worker ≢ v
       another origin b o e = o .busy (subst (λ w. state r now .worker w .stage ≡ 0) (sym e) idle)
 
-      new-number : getD (starts (suc now)) (getD (set (book .opened) v (book .calls)) v 0) 0 ≡ suc now
-      new-number =
-          rw (
-            getD-set-same (book .opened) v (book .calls) 0 (omega (arith, eighth, booked .numbers)),
-            booked .calls-are,
-            passing-more (starts-at r) now begins,
-          )
-          (getD-append-seam (starts now) (suc now) [] 0)
+      new-number : getD (set (book .opened) v (book .calls)) v 0 ≡ length (starts r now)
+      new-number = getD-set-same (book .opened) v (book .calls) 0 (omega (arith, eighth, booked .numbers)) ∙ booked .calls-are
 
       old-number : (origin : ℕ) (b : Begun r origin) → Open r origin b now →
-          getD (starts (suc now)) (getD (set (book .opened) v (book .calls)) (entry r origin .worker) 0) 0 ≡ suc origin
+          getD (set (book .opened) v (book .calls)) (entry r origin .worker) 0 ≡ length (starts r origin)
       old-number origin b o =
-          let number = getD (book .opened) (entry r origin .worker) 0 in
-          let is = booked .numbered origin b o in
-          rw (
-            getD-set-other (book .opened) v (entry r origin .worker) (book .calls) 0 (another origin b o),
-            passing-more (starts-at r) now begins,
-          )
-          (List·getD-append (starts now) (suc now ∷ []) 0 number (inside (starts now) number (omega arith)) ∙ is)
+          getD-set-other (book .opened) v (entry r origin .worker) (book .calls) 0 (another origin b o) ∙ booked .numbered origin b o
 
       new-time : entry r now .act ≡ contains →
           getD (set (book .absent) v missing) v 0 ≡ absentBy r (entry r now .key) (suc now) (suc now)
@@ -176,9 +158,7 @@ module _ (r : Schedule) where
             numbered = λ origin b o.
                 elim (ℕ-discrete origin now) [
                   | yes e ↦
-                      subst
-                      (λ t. getD (starts (suc now)) (getD (set (book .opened) v (book .calls)) (entry r t .worker) 0) 0 ≡ suc t)
-                      (sym e) new-number
+                      subst (λ t. getD (set (book .opened) v (book .calls)) (entry r t .worker) 0 ≡ length (starts r t)) (sym e) new-number
                   | no d ↦ old-number origin b (earlier origin b o d)
                 ];
             missed-first = λ origin b o asks.
@@ -191,26 +171,36 @@ module _ (r : Schedule) where
                 ];
           }
 
-    -- a turn counts a wait, and a key that it takes out is missed by those who look it up
+    -- after a turn the counts are the same but for a wait, and so are the open calls' numbers
     module _ (report : Report) (event : outcome r now ≡ turnReported report) where
       unstarted : isStarted (outcome r now) ≡ false
       unstarted = ap isStarted event
 
-      waiting : (absent : List ℕ) → length absent ≡ 8 →
+      turned : (waits : ℕ) → waits ≡ cond (isWaits (turnReported report)) (suc (book .waits)) (book .waits) →
+          (absent : List ℕ) → length absent ≡ 8 →
           ((origin : ℕ) (b : Begun r origin) → Open r origin b (suc now) → entry r origin .act ≡ contains →
           getD absent (entry r origin .worker) 0 ≡ absentBy r (entry r origin .key) (suc origin) (suc now)) →
-          Booked (suc now) (withAbsent (waitBook book report) absent)
-      waiting absent eight firsts =
+          Booked (suc now)
+          (record { calls = book .calls; refused = book .refused; waits = waits; opened = book .opened; absent = absent })
+      turned waits counts absent eight firsts =
           record {
             calls-are = booked .calls-are ∙ sym (ap length (passing-same (starts-at r) now unstarted));
             refused-are = booked .refused-are ∙ sym (count-next isRefused (ap isRefused event));
             waits-are =
-                ap (λ n. cond (isWaits (turnReported report)) (suc n) n) (booked .waits-are) ∙ sym (count-next isWaits (ap isWaits event));
+                counts
+                ∙ ap (λ n. cond (isWaits (turnReported report)) (suc n) n) (booked .waits-are) ∙ sym (count-next isWaits (ap isWaits event));
             numbers = booked .numbers;
             times = eight;
             numbered = numbered-kept unstarted;
             missed-first = firsts;
           }
+
+      -- and where it keeps what is in the set, so are the times
+      kept-times : (waits : ℕ) → waits ≡ cond (isWaits (turnReported report)) (suc (book .waits)) (book .waits) →
+          ((key : ℕ) → has r now key ≡ true → has r (suc now) key ≡ true) →
+          Booked (suc now)
+          (record { calls = book .calls; refused = book .refused; waits = waits; opened = book .opened; absent = book .absent })
+      kept-times waits counts kept = turned waits counts (book .absent) (booked .times) (missed-kept unstarted kept)
 
       -- the time of a look-up, where a key leaves the set
       missed-by : (gone-key : ℕ) → ((key : ℕ) → has r (suc now) key ≡ (not (eqb key gone-key) && has r now key)) →
@@ -263,23 +253,29 @@ module _ (r : Schedule) where
           (omega (arith, b .known, booked .times, counts (r .workers) (r .nodes) (r .good)))
           ∙ rw looks (missed-by gone-key gone origin b o asks)
 
-      turning : Change r now (workerAt (arena r now) (entry r now .worker)) (workerAt (arena r (suc now)) (entry r now .worker)) →
-          Booked (suc now)
-          (turnBook book (arena r (suc now)) (workerAt (arena r now) (entry r now .worker))
-          (workerAt (arena r (suc now)) (entry r now .worker)) report (suc now))
-      unfolding turnBook
-      turning (stays none kept) = rw none (waiting (book .absent) (booked .times) (missed-kept unstarted kept))
-      turning (leaves takes gone) =
-          let key = workerAt (arena r now) (entry r now .worker) .key in
-          let absent = missed (workerAt (arena r (suc now))) (workersOf (arena r (suc now))) key (suc now) (book .absent) in
-          rw takes
-          (waiting absent
-          (missed-length (workerAt (arena r (suc now))) key (suc now) (book .absent) (workersOf (arena r (suc now))) ∙ booked .times)
-          (missed-time key gone))
+    -- a turn that takes a key out moves, and is missed by those who look the key up
+    turning : (report : Report) → outcome r now ≡ turnReported report →
+        Change r now (workerAt (arena r now) (entry r now .worker)) (workerAt (arena r (suc now)) (entry r now .worker) .answer) report →
+        Booked (suc now) (nextBook (arena r now) (suc now) (entry r now) book (turnReported report))
+    unfolding nextBook arenaAt
+    turning report.Idle event (stays none kept) = kept-times report.Idle event _ refl kept
+    turning report.Idle event (leaves moves takes gone) = absurd (true≢false (sym moves))
+    turning (report.Moved stage) event (stays none kept) = rw none (kept-times (report.Moved stage) event _ refl kept)
+    turning (report.Moved stage) event (leaves moves takes gone) =
+        let key = workerAt (arena r now) (entry r now .worker) .key in
+        let worker = workerAt (arena r (suc now)) in
+        let workers = workersOf (arena r (suc now)) in
+        rw takes
+        (turned (report.Moved stage) event _ refl (missed worker workers key (suc now) (book .absent))
+        (missed-length worker key (suc now) (book .absent) workers ∙ booked .times) (missed-time (report.Moved stage) event key gone))
+    turning (report.Waits node worker) event (stays none kept) = kept-times (report.Waits node worker) event _ refl kept
+    turning (report.Waits node worker) event (leaves moves takes gone) = absurd (true≢false (sym moves))
+    turning (report.Finished answer) event (stays none kept) = kept-times (report.Finished answer) event _ refl kept
+    turning (report.Finished answer) event (leaves moves takes gone) = absurd (true≢false (sym moves))
 
     -- by what the next entry comes to
     by-event : Happens r now → Booked (suc now) (nextBook (arena r now) (suc now) (entry r now) book (outcome r now))
-    unfolding arenaAt
+    unfolding arenaAt nextBook
     by-event (nothing unstarted unreported unfinished same) = refusal (outcome r now) refl unstarted unreported
       where
         refusal : (event : Event) → outcome r now ≡ event → isStarted event ≡ false → isReported event ≡ false →

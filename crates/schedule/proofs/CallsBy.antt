@@ -1,7 +1,7 @@
 -- The record of a call as far as it is known at a time, and how it changes with the next entry.
 use Prim.Native.Nat.{ℕ, suc, _+_, _-_, _≤_}
 use mathlib.Core.Path.{_≡_, refl, ap, _∙_}
-use mathlib.Core.Logic.{_≢_}
+use mathlib.Core.Logic.{_≢_, _⊎_, inl, inr}
 use mathlib.Core.Bool.{true, false, cond, and-false}
 use native.Mathlib.Omega.{arith}
 use lib.Dec.{eqb}
@@ -9,8 +9,10 @@ use borrow.Author.Tests.{ne-eqb}
 use Rattle.linear.specs.Lists.{first}
 use Rattle.linear.specs.Entries.{Entry}
 use Rattle.linear.specs.History.{Call, entryAt, finishOf, decisionOf, answerOf, pointOf, callAt}
-use Rattle.linear.proofs.Timeline.{Schedule, last, decisive, finishing, call-at}
-use Rattle.schedule.proofs.Times.{first-kept, first-same, first-now}
+use Rattle.linear.proofs.ListLaws.{first-none, first-found}
+use Rattle.linear.proofs.Timeline.{Schedule, Begun, last, entry, decisive, finishing, call-at}
+use Rattle.linear.proofs.Phases.{Open, Phase, runs, closes, finished, phase-at}
+use Rattle.linear.proofs.Times.{first-kept, first-same, first-now}
 
 module _ (r : Schedule) where
   -- a call is known by its start; its entry
@@ -111,9 +113,9 @@ module _ (r : Schedule) where
       pub call-finishes : finishing r v (suc now) ≡ true → decisive r v (suc now) ≡ false →
           callBy (suc now) start ≡ made start (suc now) (decisionBy now start)
       unfolding callBy
-      call-finishes finished undecided =
+      call-finishes done undecided =
           let ends : finishBy (suc now) start ≡ suc now
-          = rw more (first-now (finishing r v) (suc start) (now - start) (omega arith) runs (rw place finished)) ∙ place in
+          = rw more (first-now (finishing r v) (suc start) (now - start) (omega arith) runs (rw place done)) ∙ place in
           rw (ends, ne-eqb (suc now) 0 (omega arith), runs) (ap (made start (suc now)) (decision-same undecided))
 
       -- a decision
@@ -125,3 +127,19 @@ module _ (r : Schedule) where
           let decides : decisionIn (suc now) start 0 ≡ suc now
           = rw more (first-now (decisive r v) (suc start) (now - start) (omega arith) none-yet (rw place decided)) ∙ place in
           rw (finish-same unfinished, runs) (ap (made start 0) decides)
+
+  -- a call is open or finished
+  module _ (origin : ℕ) (b : Begun r origin) where
+    pub open-or-done : (now : ℕ) → suc origin ≤ now → Open r origin b now ⊎ (finishBy now (suc origin) ≢ 0)
+    open-or-done now begun = go (phase-at r origin b now begun)
+      where
+        go : Phase r origin b now → Open r origin b now ⊎ (finishBy now (suc origin) ≢ 0)
+        go (runs o undecided none look) = inl o
+        go (closes o decided time past it) = inl o
+        go (finished time finish past earlier it done rest none) =
+            let found = first-found (finishing r (entry r origin .worker)) (suc (suc origin)) (now - suc origin) {some = suc finish}
+            (omega (arith, it .begun)) (omega (arith, it .begun)) done in
+            inr (omega (arith, found .1))
+
+    pub open-unfinished : (now : ℕ) → Open r origin b now → finishBy now (suc origin) ≡ 0
+    open-unfinished now o = first-none _ _ _ (λ t low high. o .unfinished t (omega arith) (omega (arith, o .begun)))

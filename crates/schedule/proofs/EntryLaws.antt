@@ -1,16 +1,22 @@
 -- The entries of a schedule, by the places of their words.
 use Prim.Native.Nat.{ℕ, zero, suc, _+_, _*_, _%_, _≤_, _<_, _/_}
-use mathlib.Core.Path.{_≡_, refl}
+use mathlib.Core.Path.{_≡_, refl, ap}
 use mathlib.Core.List.{List, [], _∷_}
-use mathlib.Core.Bool.{true, false}
+use mathlib.Core.Bool.{Bool, true, false, cond, and-false}
 use native.Mathlib.Nat.{suc-add}
 use native.Mathlib.Numerals.{add-one, add-two, add-three}
 use native.Mathlib.Omega.{arith}
 use lib.ListN.{length, getD, drop}
 use lib.Seq.{drop-cons}
-use Rattle.linear.specs.Entries.{Entry}
+use lib.Dec.{leb, eqb}
+use borrow.Author.Tests.{lt-leb, ne-eqb}
+use Rattle.worker.specs.Worker.{within}
+use Rattle.worker.specs.Refusals.{Refusal, judged}
+use Rattle.arena.specs.Start.{startRefusals}
+use Rattle.linear.specs.Entries.{Entry, callStarted, entryRefused, isTurn, isWaits, eventOf}
 use Rattle.linear.specs.Lists.{filter}
-use Rattle.schedule.specs.Run.{entryWidth, entryOf, entriesOf, isOperation, operationsIn}
+use Rattle.linear.proofs.ListLaws.{filter-shorter}
+use Rattle.schedule.specs.Run.{entryWidth, entryOf, entriesOf, countIn}
 
 -- the three words from a place on, as an entry
 abbrev pub entryFrom : List ℕ → ℕ → Entry
@@ -44,6 +50,11 @@ entries-count schedule whole = let fit = entries-fit schedule in omega arith
 pub entries-quotient : (schedule : List ℕ) → length schedule % entryWidth ≡ 0 → length schedule / entryWidth ≡ length (entriesOf schedule)
 entries-quotient schedule whole = omega (arith, entries-count schedule whole)
 
+-- and how many pass a test
+pub count-few : (test : Entry → Bool) (schedule : List ℕ) → countIn test (entriesOf schedule) ≤ length schedule / entryWidth
+unfolding countIn
+count-few test schedule = let fit = entries-fit schedule in omega (arith, filter-shorter test (entriesOf schedule))
+
 -- the entries from a place on: the entry there, and then the others; none where no three words are left
 next-entry : (schedule : List ℕ) (at : ℕ) → at + 3 ≤ length schedule →
     entriesOf (drop at schedule) ≡ entryFrom schedule at ∷ entriesOf (drop (at + 3) schedule)
@@ -65,18 +76,50 @@ no-entry (worker ∷ []) h = refl
 no-entry (worker ∷ act ∷ []) h = refl
 no-entry (worker ∷ act ∷ key ∷ words) h = absurd (omega arith)
 
--- the operations among them
-module _ (schedule : List ℕ) (at : ℕ) (h : at + 3 ≤ length schedule) where
-  pub one-operation : isOperation (entryFrom schedule at) ≡ true →
-      operationsIn (entriesOf (drop at schedule)) ≡ suc (operationsIn (entriesOf (drop (at + 3) schedule)))
-  unfolding operationsIn filter
-  one-operation is = rw (next-entry schedule at h, is)
+-- those of them that pass a test
+module _ (test : Entry → Bool) (schedule : List ℕ) (at : ℕ) (h : at + 3 ≤ length schedule) where
+  pub one-more : test (entryFrom schedule at) ≡ true →
+      countIn test (entriesOf (drop at schedule)) ≡ suc (countIn test (entriesOf (drop (at + 3) schedule)))
+  unfolding countIn filter
+  one-more is = rw (next-entry schedule at h, is)
 
-  pub no-operation : isOperation (entryFrom schedule at) ≡ false →
-      operationsIn (entriesOf (drop at schedule)) ≡ operationsIn (entriesOf (drop (at + 3) schedule))
-  unfolding operationsIn filter
-  no-operation is = rw (next-entry schedule at h, is)
+  pub no-more : test (entryFrom schedule at) ≡ false →
+      countIn test (entriesOf (drop at schedule)) ≡ countIn test (entriesOf (drop (at + 3) schedule))
+  unfolding countIn filter
+  no-more is = rw (next-entry schedule at h, is)
 
-pub no-operations : (schedule : List ℕ) → length schedule < 3 → operationsIn (entriesOf schedule) ≡ 0
-unfolding operationsIn filter
-no-operations schedule h = rw (no-entry schedule h)
+pub none-left : (test : Entry → Bool) (schedule : List ℕ) → length schedule < 3 → countIn test (entriesOf schedule) ≡ 0
+unfolding countIn filter
+none-left test schedule h = rw (no-entry schedule h)
+
+-- the turns among them are those with acts from 0 to 0
+pub turns-within : (entries : List Entry) → countIn (λ entry. within 0 0 (entry .act)) entries ≡ countIn isTurn entries
+unfolding countIn filter
+turns-within [] = refl
+turns-within (entry ∷ entries) =
+    let same : within 0 0 (entry .act) ≡ isTurn entry = zero-only (entry .act) in
+    rw same (go (isTurn entry) (turns-within entries))
+  where
+    zero-only : (act : ℕ) → within 0 0 act ≡ eqb act 0
+    zero-only zero = refl
+    zero-only (suc act) = rw (lt-leb (suc act) 0 (omega arith), ne-eqb (suc act) 0 (omega arith)) (and-false (leb 0 (suc act)))
+
+    go : (turn : Bool) → countIn (λ entry. within 0 0 (entry .act)) entries ≡ countIn isTurn entries →
+        length (cond turn (entry ∷ filter (λ entry. within 0 0 (entry .act)) entries) (filter (λ entry. within 0 0 (entry .act)) entries))
+        ≡ length (cond turn (entry ∷ filter isTurn entries) (filter isTurn entries))
+    go true same = ap suc same
+    go false same = same
+
+-- an entry that is no turn does not wait
+not-waits : (refusals : List Refusal) → isWaits (judged refusals entryRefused callStarted) ≡ false
+not-waits [] = refl
+not-waits ((applies, number) ∷ refusals) = go applies (not-waits refusals)
+  where
+    go : (applies : Bool) → isWaits (judged refusals entryRefused callStarted) ≡ false →
+        isWaits (cond applies (entryRefused number) (judged refusals entryRefused callStarted)) ≡ false
+    go true others = refl
+    go false others = others
+
+pub start-silent : (arena : List ℕ) (entry : Entry) → isTurn entry ≡ false → isWaits (eventOf arena entry) ≡ false
+unfolding eventOf
+start-silent arena entry starts = rw starts (not-waits (startRefusals arena (entry .worker) (entry .act) (entry .key)))

@@ -15,6 +15,7 @@ use Rattle.worker.specs.Worker.{remove}
 use Rattle.worker.specs.Report.{answerNumber}
 use Rattle.worker.specs.declared.Worker.{Worker}
 use Rattle.worker.specs.declared.report.Answer.the-variants.{Yes}
+use Rattle.worker.specs.declared.report.Report.{Report}
 use Rattle.worker.specs.declared.report.Step.{Step}
 use Rattle.arena.specs.Records.{workerAt}
 use Rattle.linear.specs.Lists.{first}
@@ -23,11 +24,11 @@ use Rattle.linear.specs.History.{isDecision, absentAt}
 use Rattle.linear.proofs.ListLaws.{first-found}
 use Rattle.linear.proofs.State.{State, stepped}
 use Rattle.linear.proofs.After.{own-after}
-use Rattle.linear.proofs.Course.{Row, goes-in, goes-out, present, missing, late, Course, rests, goes-on, settles, ends}
+use Rattle.linear.proofs.Course.{Row, isMoved, goes-in, goes-out, present, missing, late, Course, rests, goes-on, settles, ends}
 use Rattle.linear.proofs.Keys.{has-kept, has-added, has-taken}
 use Rattle.linear.proofs.Timeline.{Schedule, has, arena, state, entry, outcome, own-worker, turn-known, always}
 use Rattle.schedule.specs.Book.{looksUp, missed, takesOut}
-use Rattle.schedule.proofs.Times.{first-kept, first-same, first-now}
+use Rattle.linear.proofs.Times.{first-kept, first-same, first-now}
 
 -- a word that may have been written, at another place and at its own
 length-either : (test : Bool) (words : List ℕ) (v time : ℕ) → length (cond test (set words v time) words) ≡ length words
@@ -74,69 +75,71 @@ module _ (worker : ℕ → Worker) (key time : ℕ) (absent : List ℕ) where
       ]
 
 -- no key is taken out by a turn that decides nothing, of another operation than remove, or with another answer than yes
-module _ (before after : Worker) where
-  undecided : isDecision (before .stage) (after .answer) ≡ false → takesOut before after ≡ false
+module _ (before : Worker) (answer : ℕ) where
+  undecided : isDecision (before .stage) answer ≡ false → takesOut before answer ≡ false
   undecided e = rw e
 
-  no-remove : before .operation ≢ remove → takesOut before after ≡ false
+  no-remove : before .operation ≢ remove → takesOut before answer ≡ false
   no-remove other = rw (ne-eqb (before .operation) remove other, and-false)
 
-  no-yes : after .answer ≢ answerNumber Yes → takesOut before after ≡ false
-  no-yes other = rw (ne-eqb (after .answer) (answerNumber Yes) other, and-false)
+  no-yes : answer ≢ answerNumber Yes → takesOut before answer ≡ false
+  no-yes other = rw (ne-eqb answer (answerNumber Yes) other, and-false)
 
-  at-stage : {stage : ℕ} → before .stage ≡ stage → isDecision stage (after .answer) ≡ false → takesOut before after ≡ false
+  at-stage : {stage : ℕ} → before .stage ≡ stage → isDecision stage answer ≡ false → takesOut before answer ≡ false
   at-stage e fails = undecided (rw e fails)
 
 module _ (r : Schedule) where
-  -- a turn keeps what is in the set, and takes out the worker's key where it takes one out
-  pub data Change (now : ℕ) (before after : Worker) : Type 0 where
-    stays : takesOut before after ≡ false → ((key : ℕ) → has r now key ≡ true → has r (suc now) key ≡ true) → Change now before after
-    leaves : takesOut before after ≡ true →
-        ((key : ℕ) → has r (suc now) key ≡ (not (eqb key (before .key)) && has r now key)) → Change now before after
+  -- a turn keeps what is in the set, or it moves and takes out the worker's key
+  pub data Change (now : ℕ) (before : Worker) (answer : ℕ) (report : Report) : Type 0 where
+    stays : takesOut before answer ≡ false → ((key : ℕ) → has r now key ≡ true → has r (suc now) key ≡ true) → Change now before answer report
+    leaves : isMoved report ≡ true → takesOut before answer ≡ true →
+        ((key : ℕ) → has r (suc now) key ≡ (not (eqb key (before .key)) && has r now key)) → Change now before answer report
 
   change : (now w : ℕ) (step : Step) (row : Row (r .nodes) (state r now) w step) → state r (suc now) ≡ stepped (state r now) w step →
-      Change now (state r now .worker w) (step .worker)
+      Change now (state r now .worker w) (step .worker .answer) (step .report)
   unfolding isDecision
   change now w step row next = go (row .course)
     where
       before : Worker
       before = state r now .worker w
 
-      same : takesOut before (step .worker) ≡ false → ((key : ℕ) → has r (suc now) key ≡ has r now key) →
-          Change now before (step .worker)
+      answer : ℕ
+      answer = step .worker .answer
+
+      same : takesOut before answer ≡ false → ((key : ℕ) → has r (suc now) key ≡ has r now key) → Change now before answer (step .report)
       same none kept = stays none (λ key there. kept key ∙ there)
 
-      go : Course (row .act) (step .worker) (step .report) → Change now before (step .worker)
-      go (rests keeps idle) = same (at-stage before (step .worker) idle refl) (has-kept r now w step (row .act) next keeps)
-      go (goes-on keeps continues answer silent unfinished onward) =
-          same (undecided before (step .worker) silent) (has-kept r now w step (row .act) next keeps)
-      go (ends keeps stage idle done) = same (at-stage before (step .worker) stage refl) (has-kept r now w step (row .act) next keeps)
-      go (settles (present keeps inside (inl is)) continues none answer settled unfinished) =
-          same (no-remove before (step .worker) (omega (arith, is .0))) (has-kept r now w step (row .act) next keeps)
-      go (settles (present keeps inside (inr is)) continues none answer settled unfinished) =
-          same (no-remove before (step .worker) (omega (arith, is .0))) (has-kept r now w step (row .act) next keeps)
-      go (settles (missing keeps out (inl is)) continues none answer settled unfinished) =
-          same (no-remove before (step .worker) (omega (arith, is .0))) (has-kept r now w step (row .act) next keeps)
-      go (settles (missing keeps out (inr is)) continues none answer settled unfinished) =
-          same (no-yes before (step .worker) (omega (arith, is .1))) (has-kept r now w step (row .act) next keeps)
-      go (settles (late keeps asks denies stage out) continues none answer settled unfinished) =
-          same (no-remove before (step .worker) (omega (arith, asks))) (has-kept r now w step (row .act) next keeps)
-      go (settles (goes-in it operation is) continues none answer settled unfinished) =
-          stays (no-remove before (step .worker) (omega (arith, operation)))
+      go : Course (row .act) (step .worker) (step .report) → Change now before answer (step .report)
+      go (rests keeps idle) = same (at-stage before answer idle refl) (has-kept r now w step (row .act) next keeps)
+      go (goes-on keeps continues kept silent unfinished onward) =
+          same (undecided before answer silent) (has-kept r now w step (row .act) next keeps)
+      go (ends keeps stage idle done) = same (at-stage before answer stage refl) (has-kept r now w step (row .act) next keeps)
+      go (settles (present keeps inside (inl is)) continues none some settled moves) =
+          same (no-remove before answer (omega (arith, is .0))) (has-kept r now w step (row .act) next keeps)
+      go (settles (present keeps inside (inr is)) continues none some settled moves) =
+          same (no-remove before answer (omega (arith, is .0))) (has-kept r now w step (row .act) next keeps)
+      go (settles (missing keeps out (inl is)) continues none some settled moves) =
+          same (no-remove before answer (omega (arith, is .0))) (has-kept r now w step (row .act) next keeps)
+      go (settles (missing keeps out (inr is)) continues none some settled moves) =
+          same (no-yes before answer (omega (arith, is .1))) (has-kept r now w step (row .act) next keeps)
+      go (settles (late keeps asks denies stage out) continues none some settled moves) =
+          same (no-remove before answer (omega (arith, asks))) (has-kept r now w step (row .act) next keeps)
+      go (settles (goes-in it operation is) continues none some settled moves) =
+          stays (no-remove before answer (omega (arith, operation)))
           (λ key there. has-added r now w step (row .act) next it .1 key ∙ or-inr (eqb key (before .key)) _ there)
-      go (settles (goes-out it operation is) continues none answer settled unfinished) =
-          leaves (rw (settled, eq-eqb _ _ operation, eq-eqb _ _ is)) (has-taken r now w step (row .act) next it .1)
+      go (settles (goes-out it operation is) continues none some settled moves) =
+          leaves moves (rw (settled, eq-eqb _ _ operation, eq-eqb _ _ is)) (has-taken r now w step (row .act) next it .1)
 
   -- the same of the records in the arenas
   pub turn-change : (now : ℕ) (step : Step) → outcome r now ≡ turnReported (step .report) →
       Row (r .nodes) (state r now) (entry r now .worker) step →
       state r (suc now) ≡ stepped (state r now) (entry r now .worker) step →
-      Change now (workerAt (arena r now) (entry r now .worker)) (workerAt (arena r (suc now)) (entry r now .worker))
+      Change now (workerAt (arena r now) (entry r now .worker)) (workerAt (arena r (suc now)) (entry r now .worker) .answer) (step .report)
   turn-change now step event row next =
       let w = entry r now .worker in
       let known = turn-known r now event in
-      subst (λ old. Change now old (workerAt (arena r (suc now)) w)) (own-worker r now w known)
-      (subst (Change now (state r now .worker w))
+      subst (λ old. Change now old (workerAt (arena r (suc now)) w .answer) (step .report)) (own-worker r now w known)
+      (subst (λ (new : Worker). Change now (state r now .worker w) (new .answer) (step .report))
       (sym (ap (λ (s : State). s .worker w) next ∙ own-after (always r now) w (row .act) (row .placed))
       ∙ own-worker r (suc now) w known)
       (change now w step row next))

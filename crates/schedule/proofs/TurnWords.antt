@@ -13,28 +13,36 @@ use borrow.Author.Tests.{eq-eqb, ne-eqb, eqb-true}
 use Rattle.worker.specs.Worker.{contains}
 use Rattle.worker.specs.declared.Worker.{Worker}
 use Rattle.worker.specs.declared.report.Report.{Report}
+use Rattle.worker.specs.declared.report.Report.the-variants as report
 use Rattle.worker.specs.declared.report.Step.{Step}
 use Rattle.arena.specs.Records.{workerAt}
 use Rattle.linear.specs.Entries.{turnReported, isStarted, isFinished}
-use Rattle.linear.specs.History.{finishesAt, decidesAt, isDecision, isLate, answerOf, pointOf}
+use Rattle.linear.specs.History.{arenaAt, finishesAt, decidesAt, isDecision, isLate, answerOf, pointOf}
 use Rattle.linear.proofs.ListLaws.{first-none}
+use Rattle.linear.proofs.Times.{passing-same}
 use Rattle.linear.proofs.State.{State, stepped}
 use Rattle.linear.proofs.After.{own-after}
-use Rattle.linear.proofs.Course.{Row, Course, rests, goes-on, settles, ends}
+use Rattle.linear.proofs.Course.{Row, isMoved, Course, rests, goes-on, settles, ends}
 use Rattle.linear.proofs.Timeline.{Schedule, arena, state, entry, outcome, starts-at, finishing, decisive, own-worker, turn-known, idle-unfinished, always}
 use Rattle.linear.proofs.Phases.{not-decided, not-finished, Phase, runs, closes, finished, phase-at}
 use Rattle.linear.proofs.Openings.{not-idle}
+use Rattle.linear.proofs.OpenCalls.{open-next, At, open-at}
+use Rattle.linear.proofs.Waiting.{starts}
 use Rattle.schedule.specs.declared.Call.{Call}
 use Rattle.schedule.specs.declared.book.Book.{Book}
-use Rattle.schedule.specs.Run.{recordOf, callWidth, flatWords}
+use Rattle.schedule.specs.Run.{recordOf, callWidth, callWords, flatWords}
 use Rattle.schedule.specs.Book as book
-use Rattle.schedule.specs.Book.{callIn, finishedCall, decidedCall, decisionPoint, withFinish, withDecision}
-use Rattle.schedule.proofs.Times.{passing-same}
-use Rattle.schedule.proofs.CallsBy.{finishBy, decisionBy, callBy, call-finishes, call-decides}
-use Rattle.schedule.proofs.OpenCalls.{open-unfinished, open-next, At, open-at}
+use Rattle.schedule.specs.Book.{callIn, finishedCall, decidedCall, decisionPoint, withFinish, withDecision, nextBook, nextCalls}
+use Rattle.schedule.proofs.CallsBy.{finishBy, decisionBy, callBy, call-finishes, call-decides, open-unfinished}
 use Rattle.schedule.proofs.Missed.{absentBy}
-use Rattle.schedule.proofs.Booked.{starts, Booked}
+use Rattle.schedule.proofs.Booked.{Booked}
 use Rattle.schedule.proofs.Written.{recordBy, held, all-still, its-record, written-there}
+
+-- a turn that decides nothing writes nothing
+undecided-words : (words : List ℕ) (number : ℕ) (before : Worker) (answer absent time : ℕ) → book.settles before answer ≡ false →
+    withDecision words number before answer absent time ≡ words
+unfolding withDecision
+undecided-words words number before answer absent time silent = rw silent
 
 and-true : (a : Bool) → (a && true) ≡ a
 and-true true = refl
@@ -47,15 +55,15 @@ module _ (r : Schedule) (now : ℕ) (report : Report) (event : outcome r now ≡
   abbrev before : Worker
   before = workerAt (arena r now) v
 
-  abbrev after : Worker
-  after = workerAt (arena r (suc now)) v
+  abbrev answer : ℕ
+  answer = workerAt (arena r (suc now)) v .answer
 
   -- the turn finishes or decides the worker's call, as its report and the records before and after it say
   finishing-is : finishing r v (suc now) ≡ isFinished (turnReported report)
   unfolding finishesAt
   finishing-is = rw (event, eq-eqb v v refl) (and-true (isFinished (turnReported report)))
 
-  decisive-is : decisive r v (suc now) ≡ book.settles before after
+  decisive-is : decisive r v (suc now) ≡ book.settles before answer
   unfolding decidesAt
   decisive-is = rw (event, eq-eqb v v refl, sub-one)
 
@@ -65,11 +73,11 @@ module _ (r : Schedule) (now : ℕ) (report : Report) (event : outcome r now ≡
   nobody test own others w =
       elim (ℕ-discrete v w) [ yes e ↦ subst (λ u. test u (suc now) ≡ false) e own | no d ↦ others w d ]
 
-  -- it does neither; or it finishes the call of a busy worker; or it decides one that was not decided before
+  -- it does neither; or it finishes the call of a busy worker; or it moves and decides one that was not decided before
   pub data Kind : Type 0 where
-    quiet : isFinished (turnReported report) ≡ false → book.settles before after ≡ false → Kind
-    finishes : state r now .worker v .stage ≢ 0 → isFinished (turnReported report) ≡ true → book.settles before after ≡ false → Kind
-    decides-it : state r now .worker v .stage ≢ 0 → isFinished (turnReported report) ≡ false → book.settles before after ≡ true →
+    quiet : isFinished (turnReported report) ≡ false → book.settles before answer ≡ false → Kind
+    finishes : state r now .worker v .stage ≢ 0 → isFinished (turnReported report) ≡ true → book.settles before answer ≡ false → Kind
+    decides-it : state r now .worker v .stage ≢ 0 → isMoved report ≡ true → book.settles before answer ≡ true →
         state r now .worker v .answer ≡ 0 → Kind
 
   pub kind : (step : Step) → report ≡ step .report → Row (r .nodes) (state r now) v step →
@@ -81,9 +89,9 @@ module _ (r : Schedule) (now : ℕ) (report : Report) (event : outcome r now ≡
       known = turn-known r now event
 
       -- in the states
-      settles-is : book.settles before after ≡ isDecision (state r now .worker v .stage) (step .worker .answer)
+      settles-is : book.settles before answer ≡ isDecision (state r now .worker v .stage) (step .worker .answer)
       settles-is =
-          ap (λ (w : Worker). isDecision (w .stage) (after .answer)) (sym (own-worker r now v known))
+          ap (λ (w : Worker). isDecision (w .stage) answer) (sym (own-worker r now v known))
           ∙ ap (λ (w : Worker). isDecision (state r now .worker v .stage) (w .answer))
           (sym (own-worker r (suc now) v known)
           ∙ ap (λ (s : State). s .worker v) next ∙ own-after (always r now) v (row .act) (row .placed))
@@ -95,9 +103,9 @@ module _ (r : Schedule) (now : ℕ) (report : Report) (event : outcome r now ≡
       go (rests keeps idle) =
           quiet (sym (ap isFinished event) ∙ idle-unfinished r now idle)
           (settles-is ∙ ap (λ stage. isDecision stage (step .worker .answer)) idle)
-      go (goes-on keeps continues answer silent unfinished onward) = quiet (finished-is ∙ unfinished) (settles-is ∙ silent)
-      go (settles verdict continues none answer settled unfinished) =
-          decides-it (not-idle (state r now .worker v .stage) (step .worker .answer) settled) (finished-is ∙ unfinished)
+      go (goes-on keeps continues kept silent unfinished onward) = quiet (finished-is ∙ unfinished) (settles-is ∙ silent)
+      go (settles verdict continues none some settled moves) =
+          decides-it (not-idle (state r now .worker v .stage) (step .worker .answer) settled) (ap isMoved same ∙ moves)
           (settles-is ∙ settled) none
       go (ends keeps stage idle done) =
           finishes (omega (arith, stage)) (finished-is ∙ done) (settles-is ∙ ap (λ stage. isDecision stage (step .worker .answer)) stage)
@@ -105,11 +113,11 @@ module _ (r : Schedule) (now : ℕ) (report : Report) (event : outcome r now ≡
   -- the words of the records at the next time, which are as many
   module _ (lent : List ℕ) where
     abbrev pub next-words : List ℕ
-    next-words = flatWords (map (recordBy r (suc now)) (starts r now)) ++ drop (callWidth * length (starts r now)) lent
+    next-words = flatWords callWords (map (recordBy r (suc now)) (starts r now)) ++ drop (callWidth * length (starts r now)) lent
 
     held-next : next-words ≡ held r lent (suc now)
     held-next =
-        ap (λ xs. flatWords (map (recordBy r (suc now)) xs) ++ drop (callWidth * length xs) lent)
+        ap (λ xs. flatWords callWords (map (recordBy r (suc now)) xs) ++ drop (callWidth * length xs) lent)
         (sym (passing-same (starts-at r) now (ap isStarted event)))
 
     -- the call that the worker is at
@@ -127,21 +135,19 @@ module _ (r : Schedule) (now : ℕ) (report : Report) (event : outcome r now ≡
       unfinished = open-unfinished r (at .origin) (at .begun) now (at .is-open)
 
       -- a finish
-      finish-is : isFinished (turnReported report) ≡ true → book.settles before after ≡ false →
+      finish-is : isFinished (turnReported report) ≡ true → book.settles before answer ≡ false →
           finishedCall (recordBy r now begin) (suc now) ≡ recordBy r (suc now) begin
       unfolding callBy
       finish-is done silent =
           sym (ap recordOf (call-finishes r now begin (at .is-open .begun) unfinished (own-test (finishing r) (finishing-is ∙ done))
           (own-test (decisive r) (decisive-is ∙ silent))))
 
-      finish-words : isFinished (turnReported report) ≡ true → book.settles before after ≡ false →
-          withFinish (held r lent now) its report (suc now) ≡ next-words
-      unfolding withFinish
+      finish-words : isFinished (turnReported report) ≡ true → book.settles before answer ≡ false →
+          withFinish (held r lent now) its (suc now) ≡ next-words
       finish-words done silent =
           let rest = drop (callWidth * length (starts r now)) lent in
-          rw done
-          (written-there r now at book₀ booked rest (finishedCall (callIn (held r lent now) its) (suc now))
-          (ap (λ (c : Call). finishedCall c (suc now)) (its-record r now at book₀ booked rest) ∙ finish-is done silent))
+          written-there r now at book₀ booked rest (finishedCall (callIn (held r lent now) its) (suc now))
+          (ap (λ (c : Call). finishedCall c (suc now)) (its-record r now at book₀ booked rest) ∙ finish-is done silent)
 
       -- a decision: none before
       none-before : state r now .worker v .answer ≡ 0 → decisionBy r now begin ≡ 0
@@ -155,7 +161,7 @@ module _ (r : Schedule) (now : ℕ) (report : Report) (event : outcome r now ≡
               absurd (true≢false (sym done ∙ at .is-open .unfinished (suc finish) (omega (arith, it .begun)) (omega arith)))
 
       -- its answer and its point
-      answer-is : after .answer ≡ answerOf (r .initial) (r .entries) (entry r (at .origin) .worker) (suc now)
+      answer-is : answer ≡ answerOf (r .initial) (r .entries) (entry r (at .origin) .worker) (suc now)
       unfolding answerOf
       answer-is =
           rw (ne-eqb (suc now) 0 (omega arith)) (ap (λ w. workerAt (arena r (suc now)) w .answer) (sym (at .own)))
@@ -175,18 +181,18 @@ module _ (r : Schedule) (now : ℕ) (report : Report) (event : outcome r now ≡
             (next .missed-first (at .origin) (at .begun)
             (open-next r (at .origin) (at .begun) now (at .is-open) (own-test (finishing r) (finishing-is ∙ unfinished-yet))) asks)
 
-        point-is : decisionPoint (before .operation) (after .answer) absent (suc now)
-            ≡ pointOf (r .initial) (r .entries) (entry r (at .origin)) begin (suc now) (after .answer)
+        point-is : decisionPoint (before .operation) (answer) absent (suc now)
+            ≡ pointOf (r .initial) (r .entries) (entry r (at .origin)) begin (suc now) (answer)
         unfolding pointOf
-        point-is = rw operation-is (go (isLate (entry r (at .origin) .act) (after .answer)) refl)
+        point-is = rw operation-is (go (isLate (entry r (at .origin) .act) (answer)) refl)
           where
-            go : (late : Bool) → isLate (entry r (at .origin) .act) (after .answer) ≡ late →
+            go : (late : Bool) → isLate (entry r (at .origin) .act) (answer) ≡ late →
                 cond late absent (suc now) ≡ cond late (absentBy r (entry r (at .origin) .key) begin (suc now)) (suc now)
             go true e = missed-first (eqb-true _ _ (and-elim-left _ _ e))
             go false e = refl
 
-        decision-is : book.settles before after ≡ true → state r now .worker v .answer ≡ 0 →
-            decidedCall (recordBy r now begin) (decisionPoint (before .operation) (after .answer) absent (suc now)) (after .answer)
+        decision-is : book.settles before answer ≡ true → state r now .worker v .answer ≡ 0 →
+            decidedCall (recordBy r now begin) (decisionPoint (before .operation) (answer) absent (suc now)) (answer)
             ≡ recordBy r (suc now) begin
         unfolding callBy
         decision-is decided unanswered =
@@ -203,31 +209,50 @@ module _ (r : Schedule) (now : ℕ) (report : Report) (event : outcome r now ≡
             (own-test (finishing r) (finishing-is ∙ unfinished-yet)) (none-before unanswered)
             (own-test (decisive r) (decisive-is ∙ decided))))
 
-        decision-words : book.settles before after ≡ true → state r now .worker v .answer ≡ 0 →
-            withDecision (held r lent now) its before after absent (suc now) ≡ next-words
+        decision-words : book.settles before answer ≡ true → state r now .worker v .answer ≡ 0 →
+            withDecision (held r lent now) its before answer absent (suc now) ≡ next-words
         unfolding withDecision
         decision-words decided unanswered =
             let rest = drop (callWidth * length (starts r now)) lent in
-            let point = decisionPoint (before .operation) (after .answer) absent (suc now) in
+            let point = decisionPoint (before .operation) (answer) absent (suc now) in
             rw decided
-            (written-there r now at book₀ booked rest (decidedCall (callIn (held r lent now) its) point (after .answer))
-            (ap (λ (c : Call). decidedCall c point (after .answer)) (its-record r now at book₀ booked rest)
+            (written-there r now at book₀ booked rest (decidedCall (callIn (held r lent now) its) point (answer))
+            (ap (λ (c : Call). decidedCall c point (answer)) (its-record r now at book₀ booked rest)
             ∙ decision-is decided unanswered))
 
-  -- so the words that the turn leaves are those of the records at the next time
-  pub turn-words : (lent : List ℕ) (book₀ book₁ : Book) → Booked r now book₀ → Booked r (suc now) book₁ → Kind →
-      let number = getD (book₀ .opened) v 0 in
-      withDecision (withFinish (held r lent now) number report (suc now)) number before after (getD (book₁ .absent) v 0) (suc now)
-      ≡ held r lent (suc now)
-  unfolding withDecision withFinish
-  turn-words lent book₀ book₁ booked next (quiet unfinished silent) =
-      rw (unfinished, silent)
-      (ap (λ calls. flatWords calls ++ drop (callWidth * length (starts r now)) lent)
+  -- where nothing is finished or decided, the records stay
+  quiet-words : (lent : List ℕ) → isFinished (turnReported report) ≡ false → book.settles before answer ≡ false →
+      held r lent now ≡ held r lent (suc now)
+  quiet-words lent unfinished silent =
+      ap (λ calls. flatWords callWords calls ++ drop (callWidth * length (starts r now)) lent)
       (all-still r now (nobody (finishing r) (finishing-is ∙ unfinished) (λ w other. not-finished r w now (inr other)))
       (nobody (decisive r) (decisive-is ∙ silent) (λ w other. not-decided r w now (inr other))))
-      ∙ held-next lent)
-  turn-words lent book₀ book₁ booked next (finishes busy done silent) =
-      rw silent (finish-words lent (open-at r now v busy) book₀ booked done silent ∙ held-next lent)
-  turn-words lent book₀ book₁ booked next (decides-it busy unfinished decided unanswered) =
-      rw unfinished
-      (decision-words lent (open-at r now v busy) book₀ booked book₁ next unfinished decided unanswered ∙ held-next lent)
+      ∙ held-next lent
+
+-- so the words that a turn leaves are those of the records at the next time
+module _ (r : Schedule) (now : ℕ) (lent : List ℕ) (book₀ : Book) (booked : Booked r now book₀) where
+  abbrev pub turned-words : Report → List ℕ
+  turned-words report = nextCalls (arena r now) (suc now) (entry r now) book₀ (held r lent now) (turnReported report)
+
+  pub turn-words : (report : Report) (event : outcome r now ≡ turnReported report) →
+      Booked r (suc now) (nextBook (arena r now) (suc now) (entry r now) book₀ (turnReported report)) → Kind r now report event →
+      turned-words report ≡ held r lent (suc now)
+  unfolding nextCalls nextBook arenaAt
+  turn-words report.Idle event next (quiet unfinished silent) = quiet-words r now report.Idle event lent unfinished silent
+  turn-words report.Idle event next (finishes busy done silent) = absurd (true≢false (sym done))
+  turn-words report.Idle event next (decides-it busy moves decided unanswered) = absurd (true≢false (sym moves))
+  turn-words (report.Moved stage) event next (quiet unfinished silent) =
+      undecided-words (held r lent now) _ _ _ _ _ silent ∙ quiet-words r now (report.Moved stage) event lent unfinished silent
+  turn-words (report.Moved stage) event next (finishes busy done silent) = absurd (true≢false (sym done))
+  turn-words (report.Moved stage) event next (decides-it busy moves decided unanswered) =
+      decision-words r now (report.Moved stage) event lent (open-at r now (entry r now .worker) busy) book₀ booked _ next refl decided unanswered
+      ∙ held-next r now (report.Moved stage) event lent
+  turn-words (report.Waits node worker) event next (quiet unfinished silent) =
+      quiet-words r now (report.Waits node worker) event lent unfinished silent
+  turn-words (report.Waits node worker) event next (finishes busy done silent) = absurd (true≢false (sym done))
+  turn-words (report.Waits node worker) event next (decides-it busy moves decided unanswered) = absurd (true≢false (sym moves))
+  turn-words (report.Finished told) event next (quiet unfinished silent) = absurd (true≢false unfinished)
+  turn-words (report.Finished told) event next (finishes busy done silent) =
+      finish-words r now (report.Finished told) event lent (open-at r now (entry r now .worker) busy) book₀ booked done silent
+      ∙ held-next r now (report.Finished told) event lent
+  turn-words (report.Finished told) event next (decides-it busy moves decided unanswered) = absurd (true≢false (sym moves))

@@ -1,24 +1,25 @@
 -- What the flat words hold at each time: the records of the calls that have started, as far as they are known.
-use Prim.Native.Nat.{ℕ, zero, suc, _+_, _*_, _≤_, _<_}
+use Prim.Native.Nat.{ℕ, zero, suc, _+_, _≤_, _<_}
 use mathlib.Core.Path.{_≡_, refl, sym, ap, subst, _∙_}
 use mathlib.Core.Logic.{_≢_, inr, ⊎-elim}
 use mathlib.Core.List.{List, _++_, List·Memᴰ, map}
 use mathlib.Core.Bool.{true, false}
 use native.Mathlib.Omega.{arith}
 use native.Mathlib.Decide.{ℕ-discrete}
-use lib.ListN.{length, getD, set, drop, length-map, List·getD-map}
+use lib.ListN.{length, getD, set, length-map, List·getD-map}
 use Rattle.linear.proofs.ListLaws.{from-filter, from-times, pairs-times}
+use Rattle.linear.proofs.Times.{passing-place, map-same, map-set}
 use Rattle.linear.proofs.Timeline.{Schedule, Begun, begun-at, entry, starts-at, finishing, decisive}
 use Rattle.linear.proofs.Phases.{not-decided, not-finished}
+use Rattle.linear.proofs.OpenCalls.{only-open, At}
+use Rattle.linear.proofs.Waiting.{starts}
 use Rattle.schedule.specs.declared.Call.{Call}
 use Rattle.schedule.specs.declared.book.Book.{Book}
-use Rattle.schedule.specs.Run.{recordOf, callWidth, flatWords}
+use Rattle.schedule.specs.Run.{recordOf, callWidth, callWords, flatWords}
 use Rattle.schedule.specs.Book.{callIn, withCall}
-use Rattle.schedule.proofs.Times.{map-same, map-set}
-use Rattle.schedule.proofs.Flat.{flat-read, flat-write}
-use Rattle.schedule.proofs.CallsBy.{finishBy, callBy, call-done, call-quiet}
-use Rattle.schedule.proofs.OpenCalls.{open-or-done, only-open, At}
-use Rattle.schedule.proofs.Booked.{inside, starts, Booked}
+use Rattle.schedule.proofs.Flat.{calls-stand, heldBy, flat-read, flat-write}
+use Rattle.schedule.proofs.CallsBy.{finishBy, callBy, call-done, call-quiet, open-or-done}
+use Rattle.schedule.proofs.Booked.{Booked}
 
 module _ (r : Schedule) where
   -- the records at a time, in order of start
@@ -30,7 +31,7 @@ module _ (r : Schedule) where
 
   -- the flat words at a time: the records, and behind them what was lent
   abbrev pub held : List ℕ → ℕ → List ℕ
-  held lent now = flatWords (records now) ++ drop (callWidth * length (starts r now)) lent
+  held lent now = heldBy callWords callWidth (recordBy now) (starts r now) lent
 
   -- a start is the start of a call
   begun-of : (now x : ℕ) → List·Memᴰ x (starts r now) → (origin : ℕ) × (x ≡ suc origin) × Begun r origin × (suc origin ≤ now)
@@ -84,28 +85,28 @@ module _ (r : Schedule) where
         abbrev pub number : ℕ
         number = getD (book .opened) (entry r now .worker) 0
 
-        its-start : getD (starts r now) number 0 ≡ suc (at .origin)
-        its-start =
-            subst (λ v. getD (starts r now) (getD (book .opened) v 0) 0 ≡ suc (at .origin)) (at .own)
+        pub number-is : number ≡ length (starts r (at .origin))
+        number-is =
+            subst (λ v. getD (book .opened) v 0 ≡ length (starts r (at .origin))) (at .own)
             (booked .numbered (at .origin) (at .begun) (at .is-open))
 
-        there : number < length (starts r now)
-        there = inside (starts r now) number (omega (arith, its-start))
+        placed : (number < length (starts r now)) × (getD (starts r now) number 0 ≡ suc (at .origin))
+        placed = rw number-is (passing-place (starts-at r) 0 (at .origin) now (at .begun .starting) (at .is-open .begun))
 
         rewritten : map (recordBy (suc now)) (starts r now) ≡ set (records now) number (recordBy (suc now) (suc (at .origin)))
         rewritten =
             map-set (recordBy (suc now)) (recordBy now) (starts r now) number (suc (at .origin))
-            (pairs-times (starts-at r) (λ a b. a < b) 1 now (λ s t low before high p q. before)) there its-start others
+            (pairs-times (starts-at r) (λ a b. a < b) 1 now (λ s t low before high p q. before)) (placed .0) (placed .1) others
 
-        pub its-record : (rest : List ℕ) → callIn (flatWords (records now) ++ rest) number ≡ recordBy now (suc (at .origin))
+        pub its-record : (rest : List ℕ) → callIn (flatWords callWords (records now) ++ rest) number ≡ recordBy now (suc (at .origin))
         its-record rest =
-            flat-read (records now) rest number (recordBy now 0) (rw length-map there)
+            flat-read calls-stand (records now) rest number (recordBy now 0) (rw length-map (placed .0))
             ∙ List·getD-map (recordBy now) (starts r now) number 0
-            ∙ ap (recordBy now) its-start
+            ∙ ap (recordBy now) (placed .1)
 
         -- what is written there is written to the records
         pub written-there : (rest : List ℕ) (call : Call) → call ≡ recordBy (suc now) (suc (at .origin)) →
-            withCall (flatWords (records now) ++ rest) number call ≡ flatWords (map (recordBy (suc now)) (starts r now)) ++ rest
+            withCall (flatWords callWords (records now) ++ rest) number call ≡ flatWords callWords (map (recordBy (suc now)) (starts r now)) ++ rest
         written-there rest call is =
-            flat-write (records now) rest number call (rw length-map there)
-            ∙ ap (λ calls. flatWords calls ++ rest) (ap (set (records now) number) is ∙ sym rewritten)
+            flat-write calls-stand (records now) rest number call (rw length-map (placed .0))
+            ∙ ap (λ calls. flatWords callWords calls ++ rest) (ap (set (records now) number) is ∙ sym rewritten)

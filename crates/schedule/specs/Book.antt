@@ -2,26 +2,27 @@
 use Prim.Native.Nat.{ℕ, zero, suc, _+_, _*_, _<_}
 use mathlib.Core.List.{List}
 use mathlib.Core.Bool.{Bool, cond, _&&_}
-use lib.ListN.{getD, set, replicate}
+use lib.ListN.{length, getD, set, replicate}
 use lib.Seq.{sets}
 use lib.Dec.{eqb}
 use Rattle.worker.specs.Worker.{remove, contains}
 use Rattle.worker.specs.Report.{answerNumber}
 use Rattle.worker.specs.declared.Worker.{Worker}
 use Rattle.worker.specs.declared.report.Answer.the-variants.{Yes}
-use Rattle.worker.specs.declared.report.Report.{Report}
+use Rattle.worker.specs.declared.report.Report.the-variants as report
 use Rattle.arena.specs.Layout.{layoutOf, workersOf, nodesOf, nodeWidth, nodePart}
 use Rattle.arena.specs.Records.{workerAt}
 use Rattle.arena.specs.Snapshot.{chain, isNone}
 use Rattle.linear.specs.Lists.{member}
 use Rattle.linear.specs.Sets.{setOf}
-use Rattle.linear.specs.Entries.{Entry, Event, callStarted, turnReported, entryRefused, isWaits, isFinished, eventOf, after}
+use Rattle.linear.specs.Entries.{Entry, Event, callStarted, turnReported, entryRefused, eventOf, after}
 use Rattle.linear.specs.History.{isDecision, isLate}
 use Rattle.schedule.specs.declared.Call.{Call}
+use Rattle.schedule.specs.declared.Wait.{Wait}
 use Rattle.schedule.specs.declared.book.Book.{Book}
-use Rattle.schedule.specs.Run.{callWidth, callWords}
+use Rattle.schedule.specs.Run.{callWidth, callWords, waitWidth, waitWords}
 
--- record i of the history in flat words, read and written
+-- record i of flat words, read field by field and written
 unfoldable pub callIn : List ℕ → ℕ → Call
 callIn words i =
     record {
@@ -34,8 +35,17 @@ callIn words i =
       answer = getD words (callWidth * i + 6) 0;
     }
 
-unfoldable pub withCall : List ℕ → ℕ → Call → List ℕ
-withCall words i call = sets words (callWidth * i) (callWords call)
+unfoldable pub waitIn : List ℕ → ℕ → Wait
+waitIn words i =
+    record {
+      call = getD words (waitWidth * i) 0;
+      time = getD words (waitWidth * i + 1) 0;
+      node = getD words (waitWidth * i + 2) 0;
+      worker = getD words (waitWidth * i + 3) 0;
+    }
+
+unfoldable pub withRecord : List ℕ → ℕ → List ℕ → List ℕ
+withRecord words i values = sets words (length values * i) values
 
 -- a call that starts; one whose answer is decided; one that finishes
 abbrev pub newCall : ℕ → ℕ → ℕ → ℕ → Call
@@ -125,70 +135,85 @@ abbrev pub withAbsent : Book → List ℕ → Book
 withAbsent book absent =
     record { calls = book .calls; refused = book .refused; waits = book .waits; opened = book .opened; absent = absent }
 
--- a turn, by the worker's records before and after it: it decides an answer; it takes a key out where that is a remove's yes
-abbrev pub settles : Worker → Worker → Bool
-settles before after = isDecision (before .stage) (after .answer)
+-- a turn that moves, by the worker's record before it and the answer that is kept then: it decides an answer; it takes a key out where that
+-- is a remove's yes
+abbrev pub settles : Worker → ℕ → Bool
+settles before answer = isDecision (before .stage) answer
 
-abbrev pub takesOut : Worker → Worker → Bool
-takesOut before after = settles before after && eqb (before .operation) remove && eqb (after .answer) (answerNumber Yes)
+abbrev pub takesOut : Worker → ℕ → Bool
+takesOut before answer = settles before answer && eqb (before .operation) remove && eqb answer (answerNumber Yes)
 
-abbrev pub waitBook : Book → Report → Book
-waitBook book report =
-    record {
-      calls = book .calls;
-      refused = book .refused;
-      waits = cond (isWaits (turnReported report)) (suc (book .waits)) (book .waits);
-      opened = book .opened;
-      absent = book .absent;
-    }
+abbrev pub movedBook : Book → List ℕ → Worker → ℕ → ℕ → Book
+movedBook book arena before answer time =
+    cond (takesOut before answer)
+    (withAbsent book (missed (workerAt arena) (workersOf arena) (before .key) time (book .absent)))
+    book
 
-unfoldable pub turnBook : Book → List ℕ → Worker → Worker → Report → ℕ → Book
-turnBook book arena before after report time =
-    let waited = waitBook book report in
-    cond (takesOut before after)
-    (withAbsent waited (missed (workerAt arena) (workersOf arena) (before .key) time (waited .absent)))
-    waited
+-- what is written into the record of the worker's open call: its finish; its point and answer
+abbrev pub withCall : List ℕ → ℕ → Call → List ℕ
+withCall words number call = withRecord words number (callWords call)
 
--- what it writes into the record of the worker's open call: its finish; its point and answer
-unfoldable pub withFinish : List ℕ → ℕ → Report → ℕ → List ℕ
-withFinish words number report time =
-    cond (isFinished (turnReported report)) (withCall words number (finishedCall (callIn words number) time)) words
+abbrev pub withFinish : List ℕ → ℕ → ℕ → List ℕ
+withFinish words number time = withCall words number (finishedCall (callIn words number) time)
 
 abbrev pub decisionPoint : ℕ → ℕ → ℕ → ℕ → ℕ
 decisionPoint operation answer absent time = cond (isLate operation answer) absent time
 
-unfoldable pub withDecision : List ℕ → ℕ → Worker → Worker → ℕ → ℕ → List ℕ
-withDecision words number before after absent time =
-    let point = decisionPoint (before .operation) (after .answer) absent time in
-    cond (settles before after) (withCall words number (decidedCall (callIn words number) point (after .answer))) words
+unfoldable pub withDecision : List ℕ → ℕ → Worker → ℕ → ℕ → ℕ → List ℕ
+withDecision words number before answer absent time =
+    let point = decisionPoint (before .operation) answer absent time in
+    cond (settles before answer) (withCall words number (decidedCall (callIn words number) point answer)) words
 
 -- an entry, by what it comes to
 module _ (arena : List ℕ) (time : ℕ) (entry : Entry) (book : Book) where
-  abbrev pub nextBook : Event → Book
-  nextBook callStarted =
-      withStart book (entry .worker) (absentFrom (after arena entry) (entry .act) (entry .key) time)
-  nextBook (entryRefused number) = withRefusal book
-  nextBook (turnReported report) =
-      let next = after arena entry in
-      turnBook book next (workerAt arena (entry .worker)) (workerAt next (entry .worker)) report time
+  -- the arena after it; of a turn the worker's record before it, the answer that is kept after it, and the number of the open call
+  abbrev next : List ℕ
+  next = after arena entry
 
-  abbrev pub nextWords : List ℕ → Event → List ℕ
-  nextWords words callStarted =
-      withCall words (book .calls) (newCall (entry .worker) (entry .act) (entry .key) time)
-  nextWords words (entryRefused number) = words
-  nextWords words (turnReported report) =
-      let next = after arena entry in
-      let absent = getD (nextBook (turnReported report) .absent) (entry .worker) 0 in
-      let number = getD (book .opened) (entry .worker) 0 in
-      withDecision (withFinish words number report time) number (workerAt arena (entry .worker)) (workerAt next (entry .worker)) absent
-      time
+  abbrev before : Worker
+  before = workerAt arena (entry .worker)
+
+  abbrev answer : ℕ
+  answer = workerAt next (entry .worker) .answer
+
+  abbrev number : ℕ
+  number = getD (book .opened) (entry .worker) 0
+
+  unfoldable pub nextBook : Event → Book
+  nextBook callStarted = withStart book (entry .worker) (absentFrom next (entry .act) (entry .key) time)
+  nextBook (entryRefused refusal) = withRefusal book
+  nextBook (turnReported report.Idle) = book
+  nextBook (turnReported (report.Moved stage)) = movedBook book next before answer time
+  nextBook (turnReported (report.Waits node worker)) = withWait book
+  nextBook (turnReported (report.Finished told)) = book
+
+  unfoldable pub nextCalls : List ℕ → Event → List ℕ
+  nextCalls words callStarted = withCall words (book .calls) (newCall (entry .worker) (entry .act) (entry .key) time)
+  nextCalls words (entryRefused refusal) = words
+  nextCalls words (turnReported report.Idle) = words
+  nextCalls words (turnReported (report.Moved stage)) =
+      withDecision words number before answer (getD (movedBook book next before answer time .absent) (entry .worker) 0) time
+  nextCalls words (turnReported (report.Waits node worker)) = words
+  nextCalls words (turnReported (report.Finished told)) = withFinish words number time
+
+  unfoldable pub nextWaits : List ℕ → Event → List ℕ
+  nextWaits words callStarted = words
+  nextWaits words (entryRefused refusal) = words
+  nextWaits words (turnReported report.Idle) = words
+  nextWaits words (turnReported (report.Moved stage)) = words
+  nextWaits words (turnReported (report.Waits node worker)) =
+      withRecord words (book .waits) (waitWords (record { call = number; time = time; node = node; worker = worker }))
+  nextWaits words (turnReported (report.Finished told)) = words
 
   -- the books and the flat words after it
   unfoldable pub bookAfter : Book
   bookAfter = nextBook (eventOf arena entry)
 
-  unfoldable pub wordsAfter : List ℕ → List ℕ
-  wordsAfter words = nextWords words (eventOf arena entry)
+  unfoldable pub callsAfter : List ℕ → List ℕ
+  callsAfter words = nextCalls words (eventOf arena entry)
+
+  unfoldable pub waitsAfter : List ℕ → List ℕ
+  waitsAfter words = nextWaits words (eventOf arena entry)
 
 -- the counts have room for one more
 abbrev pub Roomy : Book → Type 0

@@ -1,5 +1,5 @@
--- run (document 01: run a schedule on a board that it lays itself).
-use Prim.Native.Nat.{ℕ, _*_, _/_, _%_}
+-- run (document 01: run a schedule on a board that it lays itself; document 02, A1: and write its waits).
+use Prim.Native.Nat.{ℕ, _/_, _%_}
 use mathlib.Core.List.{List, [], _∷_, _++_, map, flatten}
 use mathlib.Core.Bool.{Bool, not, _||_}
 use lib.ListN.{length, drop}
@@ -10,10 +10,11 @@ use Rattle.arena.specs.Layout.{layoutNumber, goodCounts, total}
 use Rattle.arena.specs.Replies.{Reply, refused, accepted, replied, written}
 use Rattle.arena.specs.Init.{freshWords}
 use Rattle.linear.specs.Lists.{filter}
-use Rattle.linear.specs.Entries.{Entry}
+use Rattle.linear.specs.Entries.{Entry, isTurn}
 use Rattle.linear.specs.History as history
 use Rattle.linear.specs.Linearizable.{Linearizable}
 use Rattle.schedule.specs.declared.Call.{Call}
+use Rattle.schedule.specs.declared.Wait.{Wait}
 use Rattle.schedule.specs.declared.Totals.{Totals}
 use Rattle.schedule.specs.declared.Summary.{Summary}
 use Rattle.schedule.specs.declared.Summary.the-variants as summary
@@ -32,38 +33,39 @@ entriesOf (worker ∷ []) = []
 entriesOf (worker ∷ act ∷ []) = []
 entriesOf (worker ∷ act ∷ key ∷ words) = entryOf worker act key ∷ entriesOf words
 
--- the entries with act 1 to 3: as many calls may be started
+-- the entries with act 1 to 3, and those with act 0: as many calls may be started, and as many turns may wait
 abbrev pub isOperation : Entry → Bool
 isOperation entry = within add contains (entry .act)
 
-unfoldable pub operationsIn : List Entry → ℕ
-operationsIn entries = length (filter isOperation entries)
+unfoldable pub countIn : (Entry → Bool) → List Entry → ℕ
+countIn test entries = length (filter test entries)
 
 -- bad schedule: a length that is not a multiple of 3, or above 12,000 words
 unfoldable pub isBadSchedule : List ℕ → Bool
 isBadSchedule schedule = not (eqb (length schedule % entryWidth) 0) || ltb 12000 (length schedule)
 
--- order: 10, 9, 1, 8; `room` is the number of call records that are lent
-unfoldable pub runRefusals : List ℕ → ℕ → ℕ → List ℕ → ℕ → List Refusal
-runRefusals arena workers nodes schedule room =
+-- order: 10, 9, 1, 8; `callRoom` and `waitRoom` are the numbers of records that are lent for calls and for waits
+unfoldable pub runRefusals : List ℕ → ℕ → ℕ → List ℕ → ℕ → ℕ → List Refusal
+runRefusals arena workers nodes schedule callRoom waitRoom =
     (not (goodCounts workers nodes), badCounts)
     ∷ (isBadSchedule schedule, badSchedule)
     ∷ (ltb (length arena) (total layoutNumber workers nodes), shortArena)
-    ∷ (ltb room (operationsIn (entriesOf schedule)), noRoom)
+    ∷ (ltb callRoom (countIn isOperation (entriesOf schedule)), noRoom)
+    ∷ (ltb waitRoom (countIn isTurn (entriesOf schedule)), noRoom)
     ∷ []
 
 -- the run returns entries, refused, waits, calls: the totals of the list of its entries on the arena it lays
-unfoldable pub runAnswer : List ℕ → ℕ → ℕ → List ℕ → ℕ → Reply
-runAnswer arena workers nodes schedule room =
+unfoldable pub runAnswer : List ℕ → ℕ → ℕ → List ℕ → ℕ → ℕ → Reply
+runAnswer arena workers nodes schedule callRoom waitRoom =
     let totals = history.totals (freshWords workers nodes) (entriesOf schedule) in
-    replied (runRefusals arena workers nodes schedule room)
+    replied (runRefusals arena workers nodes schedule callRoom waitRoom)
     (totals .entries ∷ totals .refused ∷ totals .waits ∷ totals .calls ∷ [])
 
 -- the arena at its end; words past the total stay
-unfoldable pub runArena : List ℕ → ℕ → ℕ → List ℕ → ℕ → List ℕ
-runArena arena workers nodes schedule room =
+unfoldable pub runArena : List ℕ → ℕ → ℕ → List ℕ → ℕ → ℕ → List ℕ
+runArena arena workers nodes schedule callRoom waitRoom =
     let entries = entriesOf schedule in
-    written (runRefusals arena workers nodes schedule room) arena
+    written (runRefusals arena workers nodes schedule callRoom waitRoom) arena
     (history.arenaAt (freshWords workers nodes) entries (length entries) ++ drop (total layoutNumber workers nodes) arena)
 
 -- the history: a record for each call, in order of start
@@ -82,13 +84,30 @@ recordOf call =
 unfoldable pub recordsOf : ℕ → ℕ → List ℕ → List Call
 recordsOf workers nodes schedule = map recordOf (history.calls (freshWords workers nodes) (entriesOf schedule))
 
--- a row of records that the caller lends; records past the calls stay
-unfoldable pub runRecords : List ℕ → ℕ → ℕ → List ℕ → List Call → List Call
-runRecords arena workers nodes schedule row =
-    let records = recordsOf workers nodes schedule in
-    judged (runRefusals arena workers nodes schedule (length row)) (λ number. row) (records ++ drop (length records) row)
+-- the waits: a record for each turn that waits, by time
+abbrev pub waitOf : history.Wait → Wait
+waitOf wait = record { call = wait .call; time = wait .time; node = wait .node; worker = wait .worker }
 
--- the same in flat words, seven to a record; words past the calls stay
+unfoldable pub waitsOf : ℕ → ℕ → List ℕ → List Wait
+waitsOf workers nodes schedule = map waitOf (history.waits (freshWords workers nodes) (entriesOf schedule))
+
+-- a row that the caller lends: what is told stands first, and the rest stays; a refusal leaves all of it
+abbrev pub told : {A : Type 0} → List A → List A → List A
+told records row = records ++ drop (length records) row
+
+unfoldable pub rowAfter : {A : Type 0} → List Refusal → List A → List A → List A
+rowAfter refusals records row = judged refusals (λ number. row) (told records row)
+
+-- the two rows of records
+abbrev pub runRecords : List ℕ → ℕ → ℕ → List ℕ → List Call → ℕ → List Call
+runRecords arena workers nodes schedule row waitRoom =
+    rowAfter (runRefusals arena workers nodes schedule (length row) waitRoom) (recordsOf workers nodes schedule) row
+
+abbrev pub runWaits : List ℕ → ℕ → ℕ → List ℕ → ℕ → List Wait → List Wait
+runWaits arena workers nodes schedule callRoom row =
+    rowAfter (runRefusals arena workers nodes schedule callRoom (length row)) (waitsOf workers nodes schedule) row
+
+-- the same in flat words, seven to a call and four to a wait
 abbrev pub callWidth : ℕ
 callWidth = 7
 
@@ -96,14 +115,24 @@ abbrev pub callWords : Call → List ℕ
 callWords call =
     call .worker ∷ call .operation ∷ call .key ∷ call .start ∷ call .point ∷ call .finish ∷ call .answer ∷ []
 
-abbrev pub flatWords : List Call → List ℕ
-flatWords calls = flatten (map callWords calls)
+abbrev pub waitWidth : ℕ
+waitWidth = 4
 
-unfoldable pub runWords : List ℕ → ℕ → ℕ → List ℕ → List ℕ → List ℕ
-runWords arena workers nodes schedule words =
-    let records = recordsOf workers nodes schedule in
-    written (runRefusals arena workers nodes schedule (length words / callWidth)) words
-    (flatWords records ++ drop (callWidth * length records) words)
+abbrev pub waitWords : Wait → List ℕ
+waitWords wait = wait .call ∷ wait .time ∷ wait .node ∷ wait .worker ∷ []
+
+abbrev pub flatWords : {A : Type 0} → (A → List ℕ) → List A → List ℕ
+flatWords words records = flatten (map words records)
+
+abbrev pub runCallWords : List ℕ → ℕ → ℕ → List ℕ → List ℕ → List ℕ → List ℕ
+runCallWords arena workers nodes schedule calls waits =
+    rowAfter (runRefusals arena workers nodes schedule (length calls / callWidth) (length waits / waitWidth))
+    (flatWords callWords (recordsOf workers nodes schedule)) calls
+
+abbrev pub runWaitWords : List ℕ → ℕ → ℕ → List ℕ → List ℕ → List ℕ → List ℕ
+runWaitWords arena workers nodes schedule calls waits =
+    rowAfter (runRefusals arena workers nodes schedule (length calls / callWidth) (length waits / waitWidth))
+    (flatWords waitWords (waitsOf workers nodes schedule)) waits
 
 -- the totals, as the run gives them
 abbrev pub totalsOf : history.Totals → Totals

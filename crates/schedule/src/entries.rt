@@ -1,20 +1,25 @@
 // An entry of a schedule: what it does to the arena, to the history and to the books.
 ghost use mathlib.Core.Path.{_≡_};
 ghost use mathlib.Core.Logic.{_≢_};
-ghost use mathlib.Core.List.{[]};
-ghost use mathlib.Core.Bool.{false};
-ghost use Prim.Native.Nat.{ℕ, _<_};
+ghost use mathlib.Core.List.{List, []};
+ghost use mathlib.Core.Bool.{true, false};
+ghost use Prim.Native.Nat.{ℕ};
 ghost use lib.ListN.{getD};
+ghost use Rattle.arena.specs.Records.{workerAt};
 ghost use Rattle.arena.specs.Replies.{accepted, replied};
 ghost use Rattle.arena.specs.Header.{headerRefusals};
-ghost use Rattle.linear.specs.Entries.{turnReported, isWaits, isFinished, after};
+ghost use Rattle.linear.specs.Entries.{after};
 ghost use Rattle.linear.specs.History.{isDecision};
 ghost use Rattle.schedule.specs.Run.{entryOf};
-ghost use Rattle.schedule.specs.Book.{decisionPoint, withFinish, withDecision, takesOut, waitBook, turnBook, Roomy, isBroken, absentFrom, bookAfter, wordsAfter};
+ghost use Rattle.schedule.specs.Book.{callIn, decidedCall, withCall, withFinish, decisionPoint, settles, withDecision, movedBook};
+ghost use Rattle.schedule.specs.Book.{Roomy, isBroken, absentFrom, bookAfter, callsAfter, waitsAfter};
 use crate::Call;
+use crate::Wait;
 use crate::book::Book;
 use crate::calls;
 use crate::present;
+use crate::verdict;
+use crate::waits;
 use arena::Verdict;
 use arena::layout;
 use arena::records;
@@ -23,28 +28,6 @@ use lazy::Outcome;
 use worker::Answer;
 use worker::Report;
 use worker::Worker;
-
-fn is_waits(report: Report) -> bool
-    ensures { λ r. ⌜ r ≡ isWaits (turnReported report) ⌝ }
-{
-    match report {
-        Report::Waits => true,
-        Report::Idle => false,
-        Report::Moved(_) => false,
-        Report::Finished(_) => false,
-    }
-}
-
-fn is_finished(report: Report) -> bool
-    ensures { λ r. ⌜ r ≡ isFinished (turnReported report) ⌝ }
-{
-    match report {
-        Report::Finished(_) => true,
-        Report::Idle => false,
-        Report::Moved(_) => false,
-        Report::Waits => false,
-    }
-}
 
 // A turn at this stage that leaves this answer decides it.
 fn is_decision(stage: u16, answer: u16) -> bool
@@ -70,90 +53,94 @@ fn point_of(operation: u16, answer: u16, absent: u16, time: u16) -> u16
     }
 }
 
-fn note_finish(history: &mut [u16], book: Book, worker: u16, report: Report, time: u16)
-    ensures { λ _. ⌜ now (history .exit) ≡ withFinish (now (history .entry)) (getD (book .opened) worker 0) report time ⌝ }
+fn note_finish(history: &mut [u16], number: u16, time: u16)
+    ensures { λ _. ⌜ now (history .exit) ≡ withFinish (now (history .entry)) number time ⌝ }
 {
-    if is_finished(report) {
-        let number = book.open_call(worker);
-        let call = calls::read_call(history, number);
-        calls::write_call(history, number, call.finished(time));
-    }
+    let call = calls::read_call(history, number);
+    calls::write_call(history, number, call.finished(time));
 }
 
-fn note_decision(
+fn note_decision(history: &mut [u16], number: u16, point: u16, answer: u16)
+    ensures { λ _. ⌜ now (history .exit)
+        ≡ withCall (now (history .entry)) number (decidedCall (callIn (now (history .entry)) number) point answer) ⌝ }
+{
+    let call = calls::read_call(history, number);
+    calls::write_call(history, number, call.decided(point, answer));
+}
+
+// The books after a turn that decides an answer: a remove's yes takes its key out of the set.
+fn book_decision(book: Book, arena: &[u16], before: Worker, answer: u16, time: u16) -> Book
+    requires { ⌜ settles before answer ≡ true ⌝ }
+    ensures { λ r. ⌜ r ≡ movedBook book (now (arena .entry)) before answer time ⌝ }
+{
+    if (before.operation == Worker::REMOVE) & (answer == Answer::YES) {
+        let workers = words::word(arena, layout::WORKERS_AT);
+        return book.miss(arena, workers, before.key, time);
+    }
+    book
+}
+
+// A turn that moves may decide its call's answer, which is then kept.
+fn enter_move(
+    arena: &[u16],
     history: &mut [u16],
     book: Book,
+    time: u16,
     worker: u16,
     before: Worker,
-    after: Worker,
-    time: u16,
-)
-    ensures { λ _. ⌜ now (history .exit) ≡ withDecision (now (history .entry)) (getD (book .opened) worker 0) before after
-        (getD (book .absent) worker 0) time ⌝ }
-{
-    if is_decision(before.stage, after.answer) {
-        let number = book.open_call(worker);
-        let absent = book.absent_time(worker);
-        let point = point_of(before.operation, after.answer, absent, time);
-        let call = calls::read_call(history, number);
-        calls::write_call(history, number, call.decided(point, after.answer));
-    }
-}
-
-// A turn that takes a key out of the set: it decides a remove's yes.
-fn takes_out(before: Worker, after: Worker) -> bool
-    ensures { λ r. ⌜ r ≡ takesOut before after ⌝ }
-{
-    is_decision(before.stage, after.answer)
-        & (before.operation == Worker::REMOVE)
-        & (after.answer == Answer::YES)
-}
-
-fn book_wait(book: Book, report: Report) -> Book
-    requires { ⌜ book .waits < 65535 ⌝ }
-    ensures { λ r. ⌜ r ≡ waitBook book report ⌝ }
-{
-    if is_waits(report) { book.wait() } else { book }
-}
-
-// The books after a turn.
-fn book_turn(
-    book: Book,
-    arena: &[u16],
-    before: Worker,
-    after: Worker,
-    report: Report,
-    time: u16,
 ) -> Book
-    requires { ⌜ book .waits < 65535 ⌝ }
-    ensures { λ r. ⌜ r ≡ turnBook book (now (arena .entry)) before after report time ⌝ }
+    ensures calls { λ r. ⌜ now (history .exit) ≡ withDecision (now (history .entry)) (getD (book .opened) worker 0) before
+        (workerAt (now (arena .entry)) worker .answer) (getD (r .absent) worker 0) time ⌝ }
+    ensures books { λ r. ⌜ r ≡ movedBook book (now (arena .entry)) before (workerAt (now (arena .entry)) worker .answer) time ⌝ }
 {
-    let waited = book_wait(book, report);
-    if takes_out(before, after) {
-        let workers = words::word(arena, layout::WORKERS_AT);
-        return waited.miss(arena, workers, before.key, time);
+    let answer = records::worker_field(arena, worker, layout::WORKER_ANSWER);
+    if !is_decision(before.stage, answer) {
+        return book;
     }
-    waited
+    let next = book_decision(book, arena, before, answer, time);
+    let point = point_of(before.operation, answer, next.absent_time(worker), time);
+    note_decision(history, book.open_call(worker), point, answer);
+    next
 }
 
 // Its key is not looked at.
-fn enter_turn(arena: &mut [u16], history: &mut [u16], book: Book, time: u16, worker: u16) -> Book
+fn enter_turn(
+    arena: &mut [u16],
+    history: &mut [u16],
+    waits: &mut [u16],
+    book: Book,
+    time: u16,
+    worker: u16,
+) -> Book
     requires { ⌜ Roomy book ⌝ }
     ensures words { λ _. ⌜ ((key : ℕ) → now (arena .exit) ≡ after (now (arena .entry)) (entryOf worker 0 key)) ⌝ }
     ensures calls { λ _. ⌜ ((key : ℕ) →
-        now (history .exit) ≡ wordsAfter (now (arena .entry)) time (entryOf worker 0 key) book (now (history .entry))) ⌝ }
+        now (history .exit) ≡ callsAfter (now (arena .entry)) time (entryOf worker 0 key) book (now (history .entry))) ⌝ }
+    ensures waits { λ _. ⌜ ((key : ℕ) →
+        now (waits .exit) ≡ waitsAfter (now (arena .entry)) time (entryOf worker 0 key) book (now (waits .entry))) ⌝ }
     ensures books { λ r. ⌜ ((key : ℕ) → r ≡ bookAfter (now (arena .entry)) time (entryOf worker 0 key) book) ⌝ }
 {
     let before = records::read_worker(arena, worker);
     match lazy::turn(arena, worker) {
         Outcome::Refused(_) => book.refuse(),
-        Outcome::Reported(report) => {
-            let after = records::read_worker(arena, worker);
-            let next = book_turn(book, arena, before, after, report, time);
-            note_finish(history, next, worker, report, time);
-            note_decision(history, next, worker, before, after, time);
-            next
-        }
+        Outcome::Reported(report) => match report {
+            Report::Idle => book,
+            Report::Moved(_) => enter_move(arena, history, book, time, worker, before),
+            Report::Waits(node, blocker) => {
+                let wait = Wait {
+                    call: book.open_call(worker),
+                    time,
+                    node,
+                    worker: blocker,
+                };
+                waits::write_wait(waits, book.waits, wait);
+                book.wait()
+            }
+            Report::Finished(_) => {
+                note_finish(history, book.open_call(worker), time);
+                book
+            }
+        },
     }
 }
 
@@ -188,7 +175,9 @@ fn enter_start(
     requires { ⌜ isBroken (after (now arena) (entryOf worker act key)) ≡ false ⌝ }
     ensures words { λ _. ⌜ now (arena .exit) ≡ after (now (arena .entry)) (entryOf worker act key) ⌝ }
     ensures calls { λ _. ⌜ now (history .exit)
-        ≡ wordsAfter (now (arena .entry)) time (entryOf worker act key) book (now (history .entry)) ⌝ }
+        ≡ callsAfter (now (arena .entry)) time (entryOf worker act key) book (now (history .entry)) ⌝ }
+    ensures waits { λ _. ⌜ ((waits : List ℕ) →
+        waits ≡ waitsAfter (now (arena .entry)) time (entryOf worker act key) book waits) ⌝ }
     ensures books { λ r. ⌜ r ≡ bookAfter (now (arena .entry)) time (entryOf worker act key) book ⌝ }
 {
     match arena::start(arena, worker, act, key) {
@@ -203,6 +192,7 @@ fn enter_start(
 pub(crate) fn enter(
     arena: &mut [u16],
     history: &mut [u16],
+    waits: &mut [u16],
     book: Book,
     time: u16,
     worker: u16,
@@ -214,11 +204,13 @@ pub(crate) fn enter(
     requires { ⌜ isBroken (after (now arena) (entryOf worker act key)) ≡ false ⌝ }
     ensures words { λ _. ⌜ now (arena .exit) ≡ after (now (arena .entry)) (entryOf worker act key) ⌝ }
     ensures calls { λ _. ⌜ now (history .exit)
-        ≡ wordsAfter (now (arena .entry)) time (entryOf worker act key) book (now (history .entry)) ⌝ }
+        ≡ callsAfter (now (arena .entry)) time (entryOf worker act key) book (now (history .entry)) ⌝ }
+    ensures waits { λ _. ⌜ now (waits .exit)
+        ≡ waitsAfter (now (arena .entry)) time (entryOf worker act key) book (now (waits .entry)) ⌝ }
     ensures books { λ r. ⌜ r ≡ bookAfter (now (arena .entry)) time (entryOf worker act key) book ⌝ }
 {
-    if act == 0 {
-        return enter_turn(arena, history, book, time, worker);
+    if act == verdict::TURN {
+        return enter_turn(arena, history, waits, book, time, worker);
     }
     enter_start(arena, history, book, time, worker, act, key)
 }

@@ -1,14 +1,15 @@
-// The run of a schedule on plain numbers: an arena in lent words, and the history in lent words, seven to a call.
+// The run of a schedule on plain numbers: an arena, the history and the waits in lent words, seven to a call and four to a wait.
 ghost use mathlib.Core.Path.{_≡_};
-ghost use mathlib.Core.List.{_++_};
 ghost use mathlib.Core.Bool.{true};
 ghost use Prim.Native.Nat.{_*_, _/_, _%_, _≤_};
-ghost use lib.ListN.{length, drop};
+ghost use lib.ListN.{length};
 ghost use Rattle.arena.specs.Layout.{layoutNumber, goodCounts, total};
 ghost use Rattle.arena.specs.Init.{freshWords};
+ghost use Rattle.linear.specs.Entries.{isTurn};
 ghost use Rattle.linear.specs.History.{totals, arenaAt};
-ghost use Rattle.schedule.specs.Run.{entryWidth, entriesOf, operationsIn, callWidth, flatWords, recordsOf, totalsOf};
-ghost use Rattle.schedule.specs.Run.{summaryReply, runAnswer, runArena, runWords, DoneLinearizable};
+ghost use Rattle.schedule.specs.Run.{entryWidth, entriesOf, isOperation, countIn, callWidth, callWords, recordsOf};
+ghost use Rattle.schedule.specs.Run.{waitWidth, waitWords, waitsOf, flatWords, told, totalsOf};
+ghost use Rattle.schedule.specs.Run.{summaryReply, runAnswer, runArena, runCallWords, runWaitWords, DoneLinearizable};
 use arena::Verdict;
 use arena::layout;
 use book::Book;
@@ -18,6 +19,7 @@ pub mod calls;
 mod entries;
 mod present;
 mod verdict;
+pub mod waits;
 
 // A call's record in a history; 0 stands for a point or finish not reached, and for the answer of a call without a point.
 pub struct Call {
@@ -28,6 +30,14 @@ pub struct Call {
     pub point: u16,
     pub finish: u16,
     pub answer: u16,
+}
+
+// A wait: the number of the call whose turn it was, counted from 0, its time, the node wanted, and the worker in the way.
+pub struct Wait {
+    pub call: u16,
+    pub time: u16,
+    pub node: u16,
+    pub worker: u16,
 }
 
 pub struct Totals {
@@ -50,13 +60,16 @@ pub fn run(
     nodes: u16,
     schedule: &[u16],
     history: &mut [u16],
+    waits: &mut [u16],
 ) -> Summary
-    ensures answer { λ r. ⌜ summaryReply r
-        ≡ runAnswer (now (arena .entry)) workers nodes (now (schedule .entry)) (length (now (history .entry)) / callWidth) ⌝ }
-    ensures words { λ _. ⌜ now (arena .exit)
-        ≡ runArena (now (arena .entry)) workers nodes (now (schedule .entry)) (length (now (history .entry)) / callWidth) ⌝ }
-    ensures calls { λ _. ⌜ now (history .exit)
-        ≡ runWords (now (arena .entry)) workers nodes (now (schedule .entry)) (now (history .entry)) ⌝ }
+    ensures answer { λ r. ⌜ summaryReply r ≡ runAnswer (now (arena .entry)) workers nodes (now (schedule .entry))
+        (length (now (history .entry)) / callWidth) (length (now (waits .entry)) / waitWidth) ⌝ }
+    ensures words { λ _. ⌜ now (arena .exit) ≡ runArena (now (arena .entry)) workers nodes (now (schedule .entry))
+        (length (now (history .entry)) / callWidth) (length (now (waits .entry)) / waitWidth) ⌝ }
+    ensures calls { λ _. ⌜ now (history .exit) ≡ runCallWords (now (arena .entry)) workers nodes (now (schedule .entry))
+        (now (history .entry)) (now (waits .entry)) ⌝ }
+    ensures waits { λ _. ⌜ now (waits .exit) ≡ runWaitWords (now (arena .entry)) workers nodes (now (schedule .entry))
+        (now (history .entry)) (now (waits .entry)) ⌝ }
     ensures linearizable { λ r. ⌜ DoneLinearizable r workers nodes (now (schedule .entry)) ⌝ }
 {
     let verdict = verdict::run_verdict(
@@ -65,12 +78,13 @@ pub fn run(
         nodes,
         schedule,
         history.len() / calls::WIDTH,
+        waits.len() / waits::WIDTH,
     );
     if let Verdict::Refused(number) = verdict {
         return Summary::Refused(number);
     }
     let end = layout::total(layout::LAYOUT, workers, nodes);
-    Summary::Done(run_entries(&mut arena[0..end], workers, nodes, schedule, history))
+    Summary::Done(run_entries(&mut arena[0..end], workers, nodes, schedule, history, waits))
 }
 
 // All entries, in words that are just those of the arena.
@@ -80,16 +94,20 @@ fn run_entries(
     nodes: u16,
     schedule: &[u16],
     history: &mut [u16],
+    waits: &mut [u16],
 ) -> Totals
     requires { ⌜ goodCounts workers nodes ≡ true ⌝ }
     requires { ⌜ length (now arena) ≡ total layoutNumber workers nodes ⌝ }
     requires { ⌜ length (now schedule) % entryWidth ≡ 0 ⌝ }
     requires { ⌜ length (now schedule) ≤ 12000 ⌝ }
-    requires { ⌜ callWidth * operationsIn (entriesOf (now schedule)) ≤ length (now history) ⌝ }
+    requires { ⌜ callWidth * countIn isOperation (entriesOf (now schedule)) ≤ length (now history) ⌝ }
+    requires { ⌜ waitWidth * countIn isTurn (entriesOf (now schedule)) ≤ length (now waits) ⌝ }
     ensures words { λ _. ⌜ now (arena .exit)
         ≡ arenaAt (freshWords workers nodes) (entriesOf (now (schedule .entry))) (length (entriesOf (now (schedule .entry)))) ⌝ }
-    ensures calls { λ _. ⌜ now (history .exit) ≡ flatWords (recordsOf workers nodes (now (schedule .entry)))
-        ++ drop (callWidth * length (recordsOf workers nodes (now (schedule .entry)))) (now (history .entry)) ⌝ }
+    ensures calls { λ _. ⌜ now (history .exit)
+        ≡ told (flatWords callWords (recordsOf workers nodes (now (schedule .entry)))) (now (history .entry)) ⌝ }
+    ensures waits { λ _. ⌜ now (waits .exit)
+        ≡ told (flatWords waitWords (waitsOf workers nodes (now (schedule .entry)))) (now (waits .entry)) ⌝ }
     ensures totals { λ r. ⌜ r ≡ totalsOf (totals (freshWords workers nodes) (entriesOf (now (schedule .entry)))) ⌝ }
 {
     arena::init(arena, workers, nodes);
@@ -102,6 +120,7 @@ fn run_entries(
         book = entries::enter(
             arena,
             history,
+            waits,
             book,
             time,
             schedule[at],

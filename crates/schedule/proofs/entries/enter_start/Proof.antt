@@ -3,6 +3,7 @@ use mathlib.Core.Path.{sym, ap, _∙_}
 use denote.Ref.{now}
 use borrow.Author.Needs.{needs}
 use Rattle.arena.specs.Replies.{verdictReply}
+use Rattle.schedule.specs.Book.{nextBook, nextCalls, nextWaits}
 use Rattle.schedule.proofs.BookLaws.{start-arena, after-refused-start, after-start}
 use Rattle.schedule.proofs.entries.enter_start.Statement.{statement}
 use Rattle.schedule.proofs.entries.enter_start.Tie as tie
@@ -16,18 +17,19 @@ looks c κs =
     (rw here (begin .pre .1 .1 .0), rw here (begin .pre .1 .1 .1))
 
 refused : tie.Need-returns
+unfolding nextBook nextCalls nextWaits
 refused c =
     let start = c .before .before .before .before .before .start in
     let args = c .before .before .before .before .before .before .before .before .before .args in
     let act = c .before .before .before .before .before .before .before .before .before .pre .0 in
     let told = sym (ap verdictReply (c .before .enum-told .given .1)) ∙ start .ensures .0 in
-    let after = after-refused-start (now (args .arena)) (args .worker) (args .time) (args .book) (now (args .history)) (args .act)
-    (args .key) act told in (
+    let after = after-refused-start (now (args .arena)) (args .worker) (args .time) (args .book) (args .act) (args .key) act told in (
       start .ensures .1 ∙ start-arena (now (args .arena)) (args .worker) (args .act) (args .key) act,
-      (after .1, c .refuse .ensures ∙ after .0),
+      (after .calls (now (args .history)), (after .waits, c .refuse .ensures ∙ after .books)),
     )
 
 accepted : tie.Need-returns-2
+unfolding nextBook nextCalls nextWaits
 accepted c =
     let answer = c .before .before .before .before .before .before .before .before in
     let start = answer .before .before .before .before .start in
@@ -36,13 +38,12 @@ accepted c =
     let act = begin .pre .0 in
     let told = sym (ap verdictReply (answer .enum-told2 .given .1)) ∙ start .ensures .0 in
     let here = start .ensures .1 ∙ start-arena (now (args .arena)) (args .worker) (args .act) (args .key) act in
-    let after = after-start (now (args .arena)) (args .worker) (args .time) (args .book) (now (args .history)) (args .act) (args .key)
-    act told in
+    let after = after-start (now (args .arena)) (args .worker) (args .time) (args .book) (args .act) (args .key) act told in
     let write = c .before .before .before .before .before in (
       here,
       (
-        rw (write .write-call .ensures, write .before .new .ensures) (after .1),
-        rw (c .start2 .ensures, c .before .absent-from .ensures, here) (after .0),
+        rw (write .write-call .ensures, write .before .new .ensures) (after .calls (now (args .history))),
+        (after .waits, rw (c .start2 .ensures, c .before .absent-from .ensures, here) (after .books)),
       ),
     )
 

@@ -1,48 +1,93 @@
--- What the turn answers decides the definitions.
+-- What the turn reports decides the definitions.
 use mathlib.Core.Path.{sym, ap, _∙_}
 use denote.Ref.{now}
 use borrow.Author.Needs.{needs}
+use Rattle.worker.specs.declared.report.Report.the-variants as report
+use Rattle.lazy.specs.declared.Outcome.the-variants as outcome
 use Rattle.lazy.specs.Turn.{outcomeReply}
-use Rattle.schedule.proofs.BookLaws.{turn-arena, turn-opened, after-refused-turn, after-turn}
+use Rattle.linear.specs.Entries.{after}
+use Rattle.schedule.specs.Book.{nextBook, nextCalls, nextWaits}
+use Rattle.schedule.proofs.BookLaws.{turn-arena, after-turn}
 use Rattle.schedule.proofs.entries.enter_turn.Statement.{statement}
 use Rattle.schedule.proofs.entries.enter_turn.Tie as tie
 
 refused : tie.Need-returns
+unfolding nextBook nextCalls nextWaits
 refused c =
     let turn = c .before .before .before .before .before .turn in
-    let args = c .before .before .before .before .before .before .before .before .before .before .before .args in
+    let args = c .before .before .before .before .before .before .before .before .before .before .before .before .args in
     let told = sym (ap outcomeReply (c .before .enum-told .given .1)) ∙ turn .ensures .0 in
-    let after = after-refused-turn (now (args .arena)) (args .worker) (args .time) (args .book) (now (args .history)) told in (
-      λ key. turn .ensures .1 ∙ turn-arena (now (args .arena)) (args .worker) key,
-      (λ key. after key .1, λ key. c .refuse .ensures ∙ after key .0),
-    )
-
-reported : tie.Need-returns-2
-reported c =
-    let booked = c .before .before .before .before .before .before .before .before in
-    let answer = booked .before .before .before .before in
-    let turn = answer .before .before .before .before .before .turn in
-    let args = answer .before .before .before .before .before .before .before .before .before .before .before .args in
-    let told = sym (ap outcomeReply (answer .before .report .given .1)) ∙ turn .ensures .0 in
-    let after = after-turn (now (args .arena)) (args .worker) (args .time) (args .book) (now (args .history))
-    (answer .before .report .given .0 .0) told in (
+    let then = after-turn (now (args .arena)) (args .worker) (args .time) (args .book) (outcome.Refused _) told in (
       λ key. turn .ensures .1 ∙ turn-arena (now (args .arena)) (args .worker) key,
       (
-        λ key. rw (
-          c .before .before .note-decision .ensures,
-          c .before .before .before .before .before .before .note-finish .ensures,
-          booked .book-turn .ensures,
-          turn-opened,
-          booked .before .before .read-worker2 .ensures,
-          answer .before .before .before .before .before .before .before .read-worker .ensures,
-          turn .ensures .1,
-        ) (after key .1),
-        λ key. rw (
-          booked .book-turn .ensures,
-          booked .before .before .read-worker2 .ensures,
-          answer .before .before .before .before .before .before .before .read-worker .ensures,
-          turn .ensures .1,
-        ) (after key .0),
+        λ key. then key .calls (now (args .history)),
+        (λ key. then key .waits (now (args .waits)), λ key. c .refuse .ensures ∙ then key .books),
+      ),
+    )
+
+idle : tie.Need-returns-2
+unfolding nextBook nextCalls nextWaits
+idle c =
+    let turn = c .before .before .before .before .before .before .before .turn in
+    let args = c .before .before .before .before .before .before .before .before .before .before .before .before .before .before .args in
+    let told = sym (ap outcomeReply (c .before .before .before .report .given .1 ∙ ap outcome.Reported (c .enum-told2 .given .1))) ∙ turn .ensures .0 in
+    let then = after-turn (now (args .arena)) (args .worker) (args .time) (args .book) (outcome.Reported report.Idle) told in (
+      λ key. turn .ensures .1 ∙ turn-arena (now (args .arena)) (args .worker) key,
+      (
+        λ key. then key .calls (now (args .history)),
+        (λ key. then key .waits (now (args .waits)), λ key. then key .books),
+      ),
+    )
+
+moved : tie.Need-returns-3
+unfolding nextBook nextCalls nextWaits after
+moved c =
+    let turn = c .before .before .before .before .before .before .before .before .before .before .before .before .turn in
+    let args = c .before .before .before .before .before .before .before .before .before .before .before .before .before .before .before .before .before .before .before .args in
+    let moves = c .before .before .enter-move in
+    let told = sym (ap outcomeReply (c .before .before .before .before .before .before .before .before .report .given .1 ∙ ap outcome.Reported (c .before .before .before .before .before .enum-told3 .given .1))) ∙ turn .ensures .0 in
+    let then = after-turn (now (args .arena)) (args .worker) (args .time) (args .book) (outcome.Reported (report.Moved (c .before .before .before .before .before .enum-told3 .given .0 .0))) told in (
+      λ key. turn .ensures .1 ∙ turn-arena (now (args .arena)) (args .worker) key,
+      (
+        λ key. rw (moves .ensures .0, moves .ensures .1, c .before .before .before .before .before .before .before .before .before .before .before .before .before .before .read-worker .ensures, turn .ensures .1)
+            (then key .calls (now (args .history))),
+        (
+          λ key. then key .waits (now (args .waits)),
+          λ key. rw (moves .ensures .1, c .before .before .before .before .before .before .before .before .before .before .before .before .before .before .read-worker .ensures, turn .ensures .1) (then key .books),
+        ),
+      ),
+    )
+
+waits : tie.Need-returns-4
+unfolding nextBook nextCalls nextWaits
+waits c =
+    let turn = c .before .before .before .before .before .before .before .before .before .before .before .before .before .before .turn in
+    let args = c .before .before .before .before .before .before .before .before .before .before .before .before .before .before .before .before .before .before .before .before .before .args in
+    let told = sym (ap outcomeReply (c .before .before .before .before .before .before .before .before .before .before .report .given .1 ∙ ap outcome.Reported (c .before .before .before .before .before .before .before .report2 .given .1))) ∙ turn .ensures .0 in
+    let then = after-turn (now (args .arena)) (args .worker) (args .time) (args .book)
+    (outcome.Reported (report.Waits (c .before .before .before .before .before .before .before .report2 .given .0 .0) (c .before .before .before .before .before .before .before .report2 .given .0 .1 .0))) told in (
+      λ key. turn .ensures .1 ∙ turn-arena (now (args .arena)) (args .worker) key,
+      (
+        λ key. then key .calls (now (args .history)),
+        (
+          λ key. rw (c .before .before .before .write-wait .ensures, c .before .before .before .before .before .open-call .ensures) (then key .waits (now (args .waits))),
+          λ key. c .wait .ensures ∙ then key .books,
+        ),
+      ),
+    )
+
+finished : tie.Need-returns-5
+unfolding nextBook nextCalls nextWaits
+finished c =
+    let turn = c .before .before .before .before .before .before .before .before .before .before .before .before .turn in
+    let args = c .before .before .before .before .before .before .before .before .before .before .before .before .before .before .before .before .before .before .before .args in
+    let told = sym (ap outcomeReply (c .before .before .before .before .before .before .before .before .report .given .1 ∙ ap outcome.Reported (c .before .before .before .before .before .enum-told4 .given .1))) ∙ turn .ensures .0 in
+    let then = after-turn (now (args .arena)) (args .worker) (args .time) (args .book)
+    (outcome.Reported (report.Finished (c .before .before .before .before .before .enum-told4 .given .0 .0))) told in (
+      λ key. turn .ensures .1 ∙ turn-arena (now (args .arena)) (args .worker) key,
+      (
+        λ key. rw (c .before .before .note-finish .ensures, c .before .before .before .open-call2 .ensures) (then key .calls (now (args .history))),
+        (λ key. then key .waits (now (args .waits)), λ key. then key .books),
       ),
     )
 
@@ -50,4 +95,5 @@ pub enter-turn-spec : {M : Type 1} → statement M
 enter-turn-spec =
     tie.close
     (tie.spec (search needs) (search needs) (search needs) (search needs) (search needs) (search needs) (search needs) (search needs)
-    (search needs) (search needs) refused (search needs) (search needs) reported)
+    (search needs) (search needs) (search needs) (search needs) (search needs) (search needs) (search needs) (search needs) refused
+    (search needs) idle (search needs) (search needs) moved (search needs) (search needs) waits (search needs) (search needs) finished)
