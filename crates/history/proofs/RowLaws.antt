@@ -1,62 +1,64 @@
--- Laws of rows that are filled from flat words.
+-- Laws of rows that are filled, and of records in flat words.
 use Prim.Native.Nat.{ℕ, zero, suc, _+_, _≤_, _<_}
 use mathlib.Core.Path.{_≡_, refl, ap}
-use mathlib.Core.List.{List, [], _∷_, _++_, flatten}
+use mathlib.Core.List.{List, [], _∷_, _++_, append-assoc, flatten}
 use native.Mathlib.Nat.{add-zero, zero-add, add-suc, suc-add}
 use native.Mathlib.Numerals.{add-one}
 use native.Mathlib.Omega.{arith}
 use lib.ListN.{length, drop, set}
-use Rattle.schedule.specs.declared.Call.{Call}
-use Rattle.schedule.specs.Run.{callWords, flatWords}
-use Rattle.schedule.specs.Book.{callIn}
-use Rattle.schedule.proofs.Flat.{read-behind}
+use Rattle.schedule.specs.Run.{flatWords, told}
+use Rattle.schedule.proofs.Flat.{Stands}
 use Rattle.history.specs.Rows.{recordsFrom, filledRow}
 
--- nothing is filled in yet
-pub none-filled : (words : List ℕ) (row : List Call) → filledRow words 0 row ≡ row
-unfolding filledRow recordsFrom
-none-filled words row = refl
+module _ {A : Type 0} (record-at : ℕ → A) where
+  -- nothing is filled in yet
+  pub none-filled : (row : List A) → filledRow record-at 0 row ≡ row
+  unfolding filledRow recordsFrom
+  none-filled row = refl
 
--- a row keeps its length
-length-from : (words : List ℕ) (i count : ℕ) (row : List Call) → count ≤ length row →
-    length (recordsFrom words i count ++ drop count row) ≡ length row
-unfolding recordsFrom
-length-from words i zero row fits = refl
-length-from words i (suc count) [] fits = absurd (omega arith)
-length-from words i (suc count) (call ∷ row) fits = ap suc (length-from words (suc i) count row (omega arith))
+  -- a row keeps its length
+  length-from : (i count : ℕ) (row : List A) → count ≤ length row →
+      length (recordsFrom record-at i count ++ drop count row) ≡ length row
+  unfolding recordsFrom
+  length-from i zero row fits = refl
+  length-from i (suc count) [] fits = absurd (omega arith)
+  length-from i (suc count) (first ∷ row) fits = ap suc (length-from (suc i) count row (omega arith))
 
-pub length-filled : (words : List ℕ) (count : ℕ) (row : List Call) → count ≤ length row → length (filledRow words count row) ≡ length row
-unfolding filledRow
-length-filled words count row fits = length-from words 0 count row fits
+  pub length-filled : (count : ℕ) (row : List A) → count ≤ length row → length (filledRow record-at count row) ≡ length row
+  unfolding filledRow
+  length-filled count row fits = length-from _ count row fits
 
--- the next record is put in
-next-from : (words : List ℕ) (i count : ℕ) (row : List Call) → count < length row →
-    set (recordsFrom words i count ++ drop count row) count (callIn words (count + i))
-    ≡ recordsFrom words i (suc count) ++ drop (suc count) row
-unfolding recordsFrom
-next-from words i count [] fits = absurd (omega arith)
-next-from words i zero (call ∷ row) fits = rw zero-add
-next-from words i (suc count) (call ∷ row) fits =
-    ap (λ (calls : List Call). callIn words i ∷ calls) (rw (suc-add, ← add-suc) (next-from words (suc i) count row (omega arith)))
+  -- the next record is put in
+  next-from : (i count : ℕ) (row : List A) → count < length row →
+      set (recordsFrom record-at i count ++ drop count row) count (record-at (count + i))
+      ≡ recordsFrom record-at i (suc count) ++ drop (suc count) row
+  unfolding recordsFrom
+  next-from i count [] fits = absurd (omega arith)
+  next-from i zero (first ∷ row) fits = rw zero-add
+  next-from i (suc count) (first ∷ row) fits =
+      ap (λ (records : List A). record-at i ∷ records) (rw (suc-add, ← add-suc) (next-from (suc i) count row (omega arith)))
 
-pub next-filled : (words : List ℕ) (count : ℕ) (row : List Call) → count < length row →
-    set (filledRow words count row) count (callIn words count) ≡ filledRow words (count + 1) row
-unfolding filledRow
-next-filled words count row fits = rw add-one (rw add-zero at (next-from words 0 count row fits))
+  pub next-filled : (count : ℕ) (row : List A) → count < length row →
+      set (filledRow record-at count row) count (record-at count) ≡ filledRow record-at (count + 1) row
+  unfolding filledRow
+  next-filled count row fits = rw add-one (rw add-zero at (next-from 0 count row fits))
 
--- the records of flat words
-from-behind : (call : Call) (words : List ℕ) (i count : ℕ) → recordsFrom (callWords call ++ words) (suc i) count ≡ recordsFrom words i count
-unfolding recordsFrom
-from-behind call words i zero = refl
-from-behind call words i (suc count) = rw (read-behind call words i, from-behind call words (suc i) count)
+-- records as they stand in flat words
+module _ {A : Type 0} {words : A → List ℕ} {width : ℕ} {read : List ℕ → ℕ → A} (stands : Stands words width read) where
+  from-behind : (x : A) (rest : List ℕ) (i count : ℕ) → recordsFrom (read (words x ++ rest)) (suc i) count ≡ recordsFrom (read rest) i count
+  unfolding recordsFrom
+  from-behind x rest i zero = refl
+  from-behind x rest i (suc count) = rw (stands .behind x rest i, from-behind x rest (suc i) count)
 
-flat-from : (calls : List Call) (rest : List ℕ) → recordsFrom (flatWords calls ++ rest) 0 (length calls) ≡ calls
-unfolding recordsFrom flatten callIn
-flat-from [] rest = refl
-flat-from (call ∷ calls) rest = rw (from-behind call (flatWords calls ++ rest) 0 (length calls), flat-from calls rest)
+  flat-from : (xs : List A) (rest : List ℕ) → recordsFrom (read (flatWords words xs ++ rest)) 0 (length xs) ≡ xs
+  unfolding recordsFrom flatten
+  flat-from [] rest = refl
+  flat-from (x ∷ xs) rest =
+      let others = flatWords words xs ++ rest in
+      rw (append-assoc, stands .first x others, from-behind x others 0 (length xs), flat-from xs rest)
 
--- a row that is filled from the flat words of some calls holds them, and then its own records
-pub filled-flat : (calls : List Call) (rest : List ℕ) (row : List Call) →
-    filledRow (flatWords calls ++ rest) (length calls) row ≡ calls ++ drop (length calls) row
-unfolding filledRow
-filled-flat calls rest row = rw (flat-from calls rest)
+  -- a row that is filled from the flat words of some records holds them, and then its own
+  pub filled-flat : (xs : List A) (rest : List ℕ) (row : List A) →
+      filledRow (read (flatWords words xs ++ rest)) (length xs) row ≡ told xs row
+  unfolding filledRow
+  filled-flat xs rest row = rw (flat-from xs rest)
