@@ -2,9 +2,9 @@
 use mathlib.Core.Path.{_≡_, refl}
 use mathlib.Core.List.{[], _∷_, flatten}
 use Rattle.bench_input.specs.Bytes.{bytesOf}
-use Rattle.bench_print.specs.Print.{digitAt, decimal, totalsText, operationText, answerText, callText, keysText, rollText}
+use Rattle.bench_print.specs.Print.{digitAt, decimal, totalsText, operationText, answerText, callText, waitText, keysText, rollText}
 
--- the listing's first two lines and its last one, and a call without a point
+-- the listing's first two lines and its last one, a call without a point, and a wait
 totals : totalsText (record { entries = 67; refused = 0; waits = 0; calls = 5 }) ≡ bytesOf "entries 67 refused 0 waits 0 calls 5\n"
 unfolding totalsText decimal digitAt
 totals = refl
@@ -18,6 +18,10 @@ open-call : callText (record { worker = 7; operation = 3; key = 65534; start = 3
     ≡ bytesOf "7 contains 65534 3060 0 0 open\n"
 unfolding callText decimal digitAt operationText answerText
 open-call = refl
+
+wait : waitText (record { call = 1; time = 29; node = 2; worker = 0 }) ≡ bytesOf "wait 29 2 0\n"
+unfolding waitText decimal digitAt
+wait = refl
 
 roll : rollText (7 ∷ []) ≡ bytesOf "roll 7\n"
 unfolding rollText keysText flatten decimal digitAt

@@ -31,6 +31,10 @@ second-bytes a b out at = go (decLe (at + length a) (length out))
 pub printed-length : {a out out′ : List ℕ} {at next : ℕ} → Printed a out at out′ next → length out′ ≡ length out
 printed-length {a} {out} {out′} {at} p = ap length (p .bytes) ∙ length-sets out at a
 
+-- from the beginning on, the place behind a text is inside
+pub printed-inside : {text before after : List ℕ} {next : ℕ} → Printed text before 0 after next → next ≤ length after
+printed-inside {text} {before} {after} {next} p = let same = printed-length p in omega (arith, p .place)
+
 pub printed-then : {a b out out′ out″ : List ℕ} {at next last : ℕ} → Printed a out at out′ next → Printed b out′ next out″ last →
     Printed (a ++ b) out at out″ last
 printed-then {a} {b} {out} {out′} {out″} {at} {next} {last} p q =
@@ -41,7 +45,7 @@ printed-then {a} {b} {out} {out′} {out″} {at} {next} {last} p q =
 
 -- one text more of the texts of a list
 module _ {A : Type 0} (text : A → List ℕ) where
-  last-text : (before : List A) (x : A) → flatten (map text (before ++ (x ∷ []))) ≡ flatten (map text before) ++ text x
+  pub last-text : (before : List A) (x : A) → flatten (map text (before ++ (x ∷ []))) ≡ flatten (map text before) ++ text x
   unfolding flatten
   last-text [] x = append-nil (text x)
   last-text (first ∷ before) x = rw (last-text before x) (sym (append-assoc (text first) (flatten (map text before)) (text x)))

@@ -9,6 +9,7 @@ use lib.Seq.{sets}
 use lib.Dec.{leb, eqb}
 use Rattle.worker.specs.Worker.{add, remove}
 use Rattle.schedule.specs.declared.Call.{Call}
+use Rattle.schedule.specs.declared.Wait.{Wait}
 use Rattle.schedule.specs.declared.Totals.{Totals}
 use Rattle.bench_input.specs.Bytes.{bytesOf}
 use Rattle.bench_input.specs.Numbers.{digitZero}
@@ -77,6 +78,11 @@ callText call =
     ++ labelled " " (call .finish)
     ++ answerText (call .answer)
     ++ bytesOf "\n"
+
+-- a wait: its moment, the node wanted, and the worker in the way
+unfoldable pub waitText : Wait → List ℕ
+waitText wait =
+    labelled "wait " (wait .time) ++ labelled " " (wait .node) ++ labelled " " (wait .worker) ++ bytesOf "\n"
 
 -- keys, each behind a space
 unfoldable pub keysText : List ℕ → List ℕ

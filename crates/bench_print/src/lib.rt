@@ -5,12 +5,13 @@ ghost use Prim.Native.Nat.{_<_};
 ghost use lib.ListN.{take};
 ghost use Rattle.bench_print.specs.Print.{Printed, digitAt, decimal, labelled};
 ghost use Rattle.bench_print.specs.Print.{badLineText, refusedText, totalsText};
-ghost use Rattle.bench_print.specs.Print.{operationText, answerText, callText, keysText, rollText};
+ghost use Rattle.bench_print.specs.Print.{operationText, answerText, callText, waitText, keysText, rollText};
 use bench_input::bytes::LINE_FEED;
 use bench_input::bytes::SPACE;
 use bench_input::numbers::DIGIT_ZERO;
 use schedule::Call;
 use schedule::Totals;
+use schedule::Wait;
 use worker::Worker;
 
 pub fn print_bad_line(out: &mut [u8], at: usize, line: u16) -> usize
@@ -48,6 +49,16 @@ pub fn print_call(out: &mut [u8], at: usize, call: Call) -> usize
     let finish_at = print_field(out, point_at, call.point);
     let answer_at = print_field(out, finish_at, call.finish);
     let end = print_answer(out, answer_at, call.answer);
+    put(out, end, LINE_FEED)
+}
+
+// A turn of a call that waited.
+pub fn print_wait(out: &mut [u8], at: usize, wait: Wait) -> usize
+    ensures { λ r. ⌜ Printed (waitText wait) (now (out .entry)) at (now (out .exit)) r ⌝ }
+{
+    let node_at = print_labelled(out, at, b"wait ", wait.time);
+    let worker_at = print_field(out, node_at, wait.node);
+    let end = print_field(out, worker_at, wait.worker);
     put(out, end, LINE_FEED)
 }
 

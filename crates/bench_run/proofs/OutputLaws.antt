@@ -1,10 +1,10 @@
 -- What a run answers and leaves, as the parts of the text that is printed of it.
 use Prim.Native.Nat.{ℕ, zero, suc, _*_, _%_, _≤_}
 use mathlib.Core.Path.{_≡_, refl, sym, ap, _∙_}
-use mathlib.Core.List.{List, [], _∷_, _++_, map, flatten}
+use mathlib.Core.List.{List, [], _∷_, _++_, flatten}
 use mathlib.Core.Bool.{Bool, true, false, cond}
 use native.Mathlib.Omega.{arith}
-use lib.ListN.{length, take, drop, replicate, length-map, length-set, length-replicate}
+use lib.ListN.{length, take, drop, replicate, length-set, length-replicate}
 use lib.Seq.{length-sets, take-append-seam, take-at}
 use lib.Dec.{ltb}
 use borrow.Author.Tests.{le-ltb}
@@ -25,23 +25,23 @@ use Rattle.arena.proofs.FreshLaws.{fresh-length}
 use Rattle.arena.proofs.Judged.{judged-refused, judged-accepted, given-values}
 use Rattle.lazy.specs.Turn.{turnOn, withEffect, turnedArena, turnArena}
 use Rattle.linear.specs.Entries.{Entry, isTurn, after}
-use Rattle.linear.specs.History.{arenaAt, totals, calls}
+use Rattle.linear.specs.History.{arenaAt, totals}
 use Rattle.linear.proofs.Timeline.{freshSchedule, Schedule, last, arena, entry}
 use Rattle.schedule.specs.declared.Call.{Call}
+use Rattle.schedule.specs.declared.Wait.{Wait}
 use Rattle.schedule.specs.declared.Totals.{Totals}
 use Rattle.schedule.specs.declared.Summary.the-variants as summary
-use Rattle.schedule.specs.Run.{entriesOf, isBadSchedule, operationsIn, runRefusals, runAnswer, runArena, runRecords, recordsOf, recordOf, totalsOf, summaryReply}
-use Rattle.schedule.proofs.HistoryLaws.{Accepted, run-passed, told-calls}
-use Rattle.schedule.proofs.Booked.{starts}
-use Rattle.schedule.proofs.Running.{calls-fit}
-use Rattle.history.specs.Rows.{noCall}
+use Rattle.schedule.specs.Run.{entriesOf, isOperation, countIn, isBadSchedule, runRefusals, runAnswer, runArena, rowAfter, runRecords, runWaits, recordsOf, waitsOf, totalsOf, summaryReply}
+use Rattle.schedule.proofs.HistoryLaws.{Accepted, run-passed, told-calls, told-waits}
+use Rattle.schedule.proofs.Running.{calls-few, waits-few}
+use Rattle.history.specs.Rows.{noCall, noWait}
 use Rattle.bench_input.specs.declared.Plan.{Plan}
 use Rattle.bench_input.specs.declared.Parsed.the-variants as parsed
 use Rattle.bench_input.specs.Input.{Reading, planned, badLine, readingOf, parsedOf, scheduled}
-use Rattle.bench_print.specs.Print.{badLineText, refusedText, totalsText, callText, rollText}
+use Rattle.bench_print.specs.Print.{badLineText, refusedText, totalsText, rollText}
 use Rattle.bench_input.proofs.PlanLaws.{Fits, planned-sound, planned-words}
 use Rattle.bench_run.proofs.RollLaws.{roll-fits}
-use Rattle.bench_run.specs.Output.{arenaWords, recordCount, runText, scheduleText, readingText, outputOf}
+use Rattle.bench_run.specs.Output.{arenaWords, recordCount, waitCount, callsText, runText, scheduleText, readingText, outputOf}
 
 -- no entry changes the number of the words
 judged-length : (rs : List Refusal) (before after : List ℕ) → length after ≡ length before →
@@ -88,17 +88,17 @@ module _ (workers nodes : ℕ) (schedule : List ℕ) where
   lent = replicate arenaWords 0
 
   abbrev refusals : List Refusal
-  refusals = runRefusals lent workers nodes schedule recordCount
+  refusals = runRefusals lent workers nodes schedule recordCount waitCount
 
-  pub refused-text : {number : ℕ} → refused number ≡ runAnswer lent workers nodes schedule recordCount →
+  pub refused-text : {number : ℕ} → refused number ≡ runAnswer lent workers nodes schedule recordCount waitCount →
       refusedText number ≡ scheduleText workers nodes schedule
   unfolding scheduleText runAnswer
   refused-text told = sym (judged-refused refusals _ refusedText (runText workers nodes schedule) told)
 
-  module _ (t : Totals) (told : summaryReply (summary.Done t) ≡ runAnswer lent workers nodes schedule recordCount) where
-    pub passed : Accepted lent workers nodes schedule recordCount
+  module _ (t : Totals) (told : summaryReply (summary.Done t) ≡ runAnswer lent workers nodes schedule recordCount waitCount) where
+    pub passed : Accepted lent workers nodes schedule recordCount waitCount
     unfolding runAnswer
-    passed = run-passed lent workers nodes schedule recordCount _ told
+    passed = run-passed lent workers nodes schedule recordCount waitCount _ told
 
     abbrev run : Schedule
     run = freshSchedule workers nodes (entriesOf schedule) (passed .counts)
@@ -120,30 +120,36 @@ module _ (workers nodes : ℕ) (schedule : List ℕ) where
         let calls-same : t .calls ≡ all .calls = cc in
         λ k. record { entries = entries-same k; refused = refused-same k; waits = waits-same k; calls = calls-same k }
 
-    -- as many as there are records
-    counted : t .calls ≡ length (recordsOf workers nodes schedule)
-    counted = ap (λ (all : Totals). all .calls) totals-are ∙ told-calls workers nodes schedule
+    -- a row that is told has its records first
+    first-told : {A : Type 0} (records row : List A) → take (length records) (rowAfter refusals records row) ≡ records
+    unfolding rowAfter runAnswer
+    first-told records row =
+        ap (take (length records)) (judged-accepted refusals _ (λ number. row) (records ++ drop (length records) row) told)
+        ∙ take-append-seam records (drop (length records) row)
 
-    -- the first records of the row are those of the calls
-    pub records-are : take (t .calls) (runRecords lent workers nodes schedule (replicate recordCount noCall))
+    -- so the first records of the rows are those of the calls and of the waits, as many as there are
+    calls-counted : t .calls ≡ length (recordsOf workers nodes schedule)
+    calls-counted = ap (λ (all : Totals). all .calls) totals-are ∙ told-calls workers nodes schedule
+
+    waits-counted : t .waits ≡ length (waitsOf workers nodes schedule)
+    waits-counted = ap (λ (all : Totals). all .waits) totals-are ∙ told-waits workers nodes schedule
+
+    pub records-are : take (t .calls) (runRecords lent workers nodes schedule (replicate recordCount noCall) waitCount)
         ≡ recordsOf workers nodes schedule
-    unfolding runRecords runAnswer
-    records-are =
-        rw (counted, length-replicate)
-        (ap (take (length (recordsOf workers nodes schedule)))
-        (judged-accepted refusals _ (λ number. replicate recordCount noCall)
-        (recordsOf workers nodes schedule ++ drop (length (recordsOf workers nodes schedule)) (replicate recordCount noCall)) told)
-        ∙ take-append-seam (recordsOf workers nodes schedule) _)
+    records-are = rw (calls-counted, length-replicate) (first-told (recordsOf workers nodes schedule) (replicate recordCount noCall))
+
+    pub waits-are : take (t .waits) (runWaits lent workers nodes schedule recordCount (replicate waitCount noWait))
+        ≡ waitsOf workers nodes schedule
+    waits-are = rw (waits-counted, length-replicate) (first-told (waitsOf workers nodes schedule) (replicate waitCount noWait))
 
     pub few-calls : t .calls ≤ recordCount
-    unfolding recordsOf calls
-    few-calls =
-        let records : length (recordsOf workers nodes schedule) ≡ length (starts run (last run))
-        = length-map (calls (freshWords workers nodes) (entriesOf schedule)) recordOf ∙ length-map (starts run (last run)) _ in
-        omega (arith, counted, calls-fit run (last run) (omega arith), passed .calls-fit)
+    few-calls = omega (arith, calls-counted, calls-few workers nodes schedule (passed .counts), passed .calls-fit)
+
+    pub few-waits : t .waits ≤ waitCount
+    few-waits = omega (arith, waits-counted, waits-few workers nodes schedule (passed .counts), passed .waits-fit)
 
     -- and the first words are the arena
-    pub arena-are : take (total layoutNumber workers nodes) (runArena lent workers nodes schedule recordCount)
+    pub arena-are : take (total layoutNumber workers nodes) (runArena lent workers nodes schedule recordCount waitCount)
         ≡ arenaAt (freshWords workers nodes) (entriesOf schedule) (length (entriesOf schedule))
     unfolding runArena runAnswer
     arena-are =
@@ -157,14 +163,14 @@ module _ (workers nodes : ℕ) (schedule : List ℕ) where
     roll-room = roll-fits run (last run)
 
     -- and these are the parts of what is printed
-    pub whole-text : {row : List Call} {words : List ℕ} {end : ℕ} →
-        row ≡ runRecords lent workers nodes schedule (replicate recordCount noCall) →
-        words ≡ runArena lent workers nodes schedule recordCount → end ≡ total layoutNumber workers nodes →
-        totalsText t ++ flatten (map callText (take (t .calls) row)) ++ rollText (keysOf (take end words))
+    pub whole-text : {row : List Call} {waits : List Wait} {words : List ℕ} {end : ℕ} →
+        row ≡ runRecords lent workers nodes schedule (replicate recordCount noCall) waitCount →
+        waits ≡ runWaits lent workers nodes schedule recordCount (replicate waitCount noWait) →
+        words ≡ runArena lent workers nodes schedule recordCount waitCount → end ≡ total layoutNumber workers nodes →
+        totalsText t ++ callsText (take (t .waits) waits) 0 (take (t .calls) row) ++ rollText (keysOf (take end words))
         ≡ scheduleText workers nodes schedule
     unfolding runText
-    whole-text r w e =
-        rw (r, w, e, records-are, arena-are, totals-are) done-text
+    whole-text r v w e = rw (r, v, w, e, records-are, waits-are, arena-are, totals-are) done-text
 
 -- what is printed of a bad line, and of a plan
 module _ (input : List ℕ) where
@@ -200,7 +206,7 @@ module _ (input : List ℕ) where
         ∙ planned-words input (plan .workers) (plan .nodes) (is .0) (is .1) (replicate 12000 0) (rw length-replicate (omega arith)))
         ∙ sym (ap readingText (is .1))
 
--- of a plan the counts and the length of the schedule are good, and the arena's words are enough: only the row may be too short
+-- of a plan the counts and the length of the schedule are good, and the arena's words are enough: only the rows may be too short
 good-plan : (entries : List (List ℕ)) → Fits entries → isBadSchedule (flatten entries) ≡ false
 unfolding isBadSchedule
 good-plan entries fits =
@@ -215,14 +221,15 @@ wide-enough workers nodes good =
     (omega (arith, counts workers nodes good, length-replicate {A = ℕ} arenaWords 0))
 
 pub only-no-room : (input : List ℕ) (workers nodes : ℕ) (entries : List (List ℕ)) → readingOf input ≡ planned workers nodes entries →
-    {number : ℕ} → refused number ≡ replied (runRefusals (replicate arenaWords 0) workers nodes (flatten entries) recordCount) [] →
+    {number : ℕ} → refused number ≡ replied (runRefusals (replicate arenaWords 0) workers nodes (flatten entries) recordCount waitCount) [] →
     number ≡ noRoom
 unfolding runRefusals
 only-no-room input workers nodes entries plan {number} told =
     let fits = planned-sound input workers nodes entries plan in
-    go (ltb recordCount (operationsIn (entriesOf (flatten entries))))
+    go (ltb recordCount (countIn isOperation (entriesOf (flatten entries)))) (ltb waitCount (countIn isTurn (entriesOf (flatten entries))))
     (rw (fits .0, good-plan entries (fits .1), wide-enough workers nodes (fits .0)) at told)
   where
-    go : (short : Bool) → refused number ≡ cond short (refused noRoom) (accepted []) → number ≡ noRoom
-    go true e = cc
-    go false e = let z : _≡_ {A = ℕ} 0 1 = cc in absurd (omega arith)
+    go : (short few : Bool) → refused number ≡ cond short (refused noRoom) (cond few (refused noRoom) (accepted [])) → number ≡ noRoom
+    go true few e = cc
+    go false true e = cc
+    go false false e = let z : _≡_ {A = ℕ} 0 1 = cc in absurd (omega arith)
