@@ -7,7 +7,7 @@
  *   - a pointer leads to as many words as the length beside it says, `totals` to four; also with length 0 it is not null;
  *   - words lent to one call as different arguments do not overlap;
  *   - nobody else reads or writes the words during the call: a function is one atomic step only where calls on one arena take turns.
- * The library is compiled for x86-64 Linux: some 11 kB of code that keeps nothing between calls, allocates nothing, takes less than 4 kB of
+ * The library is compiled for x86-64 Linux: some 12 kB of code that keeps nothing between calls, allocates nothing, takes less than 4 kB of
  * stack, and of the C library wants memset and memcpy alone.
  *
  * The arena, 8 + 8 W + 4 N words for W workers (1 to 8) and N nodes (3 to 1,024), counted from 0:
@@ -16,7 +16,8 @@
  *   node, 4 words      key, next, mark (0 unmarked, anything else marked), owner (0 nobody, otherwise worker + 1)
  * Node 0 is Head, node 1 is Tail, and 65,535 is no node. Words past the total are never touched.
  *
- * A reply is one number. Its lowest byte is 0, or the number of a refusal and then the whole reply.
+ * A reply is one number. Its lowest byte is 0, or the number of a refusal and then the whole reply; above it stand the report of a turn, one
+ * byte, and up to two values, 16 bits each.
  */
 #ifndef LAZY_LIST_H
 #define LAZY_LIST_H
@@ -41,7 +42,7 @@ enum lazy_list_refusal {
     LAZY_LIST_BAD_CALL = 5,       /* an operation that is not 1 to 3, or key 0 or 65,535 */
     LAZY_LIST_BROKEN_RECORD = 6,  /* a worker record that no turn can work on */
     LAZY_LIST_BROKEN_CHAIN = 7,   /* a link to no node, or, in a snapshot, keys that do not rise */
-    LAZY_LIST_NO_ROOM = 8,        /* too few words lent for the keys or the calls */
+    LAZY_LIST_NO_ROOM = 8,        /* too few words lent for the keys, the calls or the waits */
     LAZY_LIST_BAD_SCHEDULE = 9,   /* a length that is no multiple of 3, or above 12,000 words */
     LAZY_LIST_BAD_COUNTS = 10     /* W or N out of range */
 };
@@ -53,36 +54,41 @@ enum lazy_list_operation { LAZY_LIST_ADD = 1, LAZY_LIST_REMOVE = 2, LAZY_LIST_CO
 enum lazy_list_report { LAZY_LIST_IDLE = 0, LAZY_LIST_MOVED = 1, LAZY_LIST_WAITS = 2, LAZY_LIST_FINISHED = 3 };
 enum lazy_list_answer { LAZY_LIST_YES = 1, LAZY_LIST_NO = 2, LAZY_LIST_FULL = 3 };
 
-/* Read a reply: its refusal, or 0; of an accepted turn the report, and the stage moved to or the answer finished with; of an accepted
- * snapshot the count of the keys. */
+/* Read a reply: its refusal, or 0; of an accepted turn the report. The first value is the stage moved to, the answer finished with, the
+ * node waited for, or the count of a snapshot's keys; the second is the worker that a turn waits for. What a reply does not have is 0. */
 #define LAZY_LIST_REFUSAL(reply) ((reply) % 256u)
 #define LAZY_LIST_REPORT(reply) ((reply) / 256u % 256u)
-#define LAZY_LIST_VALUE(reply) ((reply) / 65536u)
-#define LAZY_LIST_COUNT(reply) ((reply) / 256u)
+#define LAZY_LIST_VALUE(reply) ((reply) / 65536u % 65536u)
+#define LAZY_LIST_SECOND(reply) ((reply) / 4294967296u % 65536u)
 
 /* Lays a fresh arena: idle workers and an empty list. Words past its total stay. Refused with 10, 1. */
-uint32_t lazy_list_init(uint16_t *arena, size_t arena_length, uint16_t workers, uint16_t nodes);
+uint64_t lazy_list_init(uint16_t *arena, size_t arena_length, uint16_t workers, uint16_t nodes);
 
 /* Starts a call on an idle worker. Refused with 1, 2, 3, 6, 4, 5. */
-uint32_t lazy_list_start(uint16_t *arena, size_t arena_length, uint16_t worker, uint16_t operation, uint16_t key);
+uint64_t lazy_list_start(uint16_t *arena, size_t arena_length, uint16_t worker, uint16_t operation, uint16_t key);
 
 /* Gives a worker one turn: one step of its call, seen by all. A call is finished by the turn that reports LAZY_LIST_FINISHED. A turn that
- * waits changes nothing; another worker must move on first. Refused with 1, 2, 3, 6, 7; with 6 or 7 never on an arena that init has laid
- * and only start and turn have written. */
-uint32_t lazy_list_turn(uint16_t *arena, size_t arena_length, uint16_t worker);
+ * waits changes nothing; it names the node it wants and the worker in the way, the node's owner word less 1. Refused with 1, 2, 3, 6, 7.
+ * On an arena that init has laid and only start and turn have written it is never refused with 6 or 7, and the worker in the way is
+ * another, busy one, which must move on first. */
+uint64_t lazy_list_turn(uint16_t *arena, size_t arena_length, uint16_t worker);
 
 /* Writes the keys on the chain, in rising order, and counts them; words past them stay. A key whose node is marked but not unlinked yet is
  * among them. Refused with 1, 2, 7, 8. */
-uint32_t lazy_list_snapshot(const uint16_t *arena, size_t arena_length, uint16_t *keys, size_t keys_length);
+uint64_t lazy_list_snapshot(const uint16_t *arena, size_t arena_length, uint16_t *keys, size_t keys_length);
 
 /* Runs a schedule on an arena that it lays itself. An entry is three words: worker, act (0 turn, or an operation to start), key (not looked
  * at for a turn). A refused entry is counted and the run goes on. Entries are counted from 1; the history gets seven words for each
  * accepted start, in their order: worker, operation, key, start, point, finish, answer, where start, point and finish are numbers of
  * entries, 0 stands for what was not reached, and words past the records stay. It needs room for a record to each entry with act 1 to 3.
+ * The waits get four words for each turn that waited, in their order: the number of the call's record in the history (from 0), the number
+ * of the entry, the node it wanted, the worker in the way, which is another, busy one. They need room for a record to each entry with act
+ * 0, and words past the records stay. Both lengths are in words.
  * The totals are entries, refused, waits, calls. The calls in the order of their points are a run of a sequential set: that is proved.
  * Refused with 10, 9, 1, 8. */
-uint32_t lazy_list_run(uint16_t *arena, size_t arena_length, uint16_t workers, uint16_t nodes, const uint16_t *schedule,
-                       size_t schedule_length, uint16_t *history, size_t history_length, uint16_t totals[4]);
+uint64_t lazy_list_run(uint16_t *arena, size_t arena_length, uint16_t workers, uint16_t nodes, const uint16_t *schedule,
+                       size_t schedule_length, uint16_t *history, size_t history_length, uint16_t *waits, size_t waits_length,
+                       uint16_t totals[4]);
 
 #ifdef __cplusplus
 }

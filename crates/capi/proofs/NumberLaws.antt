@@ -1,10 +1,9 @@
 -- What a C program reads from the one number.
-use Prim.Native.Nat.{ℕ, suc}
-use mathlib.Core.Path.{_≡_, refl}
+use Prim.Native.Nat.{ℕ, suc, _+_, _*_, _/_, _<_}
+use mathlib.Core.Path.{_≡_, refl, sym, ap, subst, _∙_}
 use mathlib.Core.List.{List, [], _∷_}
 use mathlib.Core.Bool.{Bool, true, false, cond, _&&_, and-eq-true-iff}
 use native.Mathlib.Omega.{arith}
-use lib.ListN.{getD}
 use lib.Dec.{eqb}
 use Rattle.worker.specs.Worker.{within, idleStage}
 use Rattle.worker.specs.Refusals.{Refusal, judged}
@@ -13,8 +12,6 @@ use Rattle.worker.specs.Stages.{stepOf}
 use Rattle.worker.specs.Turn.{busyRefusals, turnRefusals, turnOf}
 use Rattle.worker.proofs.Laws.{range-bounds}
 use Rattle.worker.specs.declared.Worker.{Worker}
-use Rattle.worker.specs.declared.report.Report.{Report}
-use Rattle.worker.specs.declared.report.Report.the-variants as report
 use Rattle.worker.specs.declared.report.Seen.{Seen}
 use Rattle.worker.specs.declared.report.Step.{Step}
 use Rattle.worker.specs.declared.report.Turned.{Turned}
@@ -30,20 +27,38 @@ use Rattle.schedule.specs.Run.{entriesOf, runRefusals, runAnswer, summaryReply,
 use Rattle.schedule.specs.declared.Summary.{Summary}
 use Rattle.schedule.specs.declared.Summary.the-variants as summary
 use Rattle.linear.specs.Linearizable.{Linearizable}
-use Rattle.capi.specs.Number.{replyNumber, reportIn, valueIn, countIn, Readable, bare}
+use Rattle.capi.specs.Number.{replyNumber, unreported, reportIn, valueIn, secondIn, Reads, Readable, Fitting, bare}
 
--- the report of a turn, and the stage or the answer with it
-pub report-read : (r : Report) →
-    (reportIn (replyNumber (accepted (reportValues r))) ≡ getD (reportValues r) 0 0)
-    × (valueIn (replyNumber (accepted (reportValues r))) ≡ getD (reportValues r) 1 0)
-report-read report.Idle = (refl, refl)
-report-read (report.Moved stage) = (omega arith, omega arith)
-report-read report.Waits = (refl, refl)
-report-read (report.Finished answer) = (omega arith, omega arith)
+-- three numbers in their places, read back
+module _ (report first second : ℕ) (one : report < 256) (two : first < 65536) (three : second < 65536) where
+  abbrev whole : ℕ
+  whole = 256 * report + 65536 * first + 4294967296 * second
 
--- the count of a snapshot
-pub count-read : (count : ℕ) → countIn (replyNumber (accepted (count ∷ []))) ≡ count
-count-read count = omega arith
+  report-back : reportIn whole ≡ report
+  report-back = let above : whole / 256 ≡ report + 256 * first + 16777216 * second = omega arith in rw above (omega arith)
+
+  first-back : valueIn whole ≡ first
+  first-back = let above : whole / 65536 ≡ first + 65536 * second = omega arith in rw above (omega arith)
+
+  second-back : secondIn whole ≡ second
+  second-back = let above : whole / 4294967296 ≡ second = omega arith in rw above (omega arith)
+
+-- what fits its place is read back
+pub reads-back : (reply : Reply) → Readable reply → Fitting reply → Reads (replyNumber reply) reply
+reads-back (refused number) readable fits = readable .2
+reads-back (accepted values) readable fits = (
+  readable,
+  report-back _ _ _ (fits .0) (fits .1) (fits .2),
+  first-back _ _ _ (fits .0) (fits .1) (fits .2),
+  second-back _ _ _ (fits .0) (fits .1) (fits .2),
+)
+
+-- so is the number of an answer that is told as a reply
+pub reads-number : (reply : Reply) {told : Reply} {number : ℕ} → number ≡ replyNumber told → told ≡ reply → Readable reply → Fitting told →
+    (number ≡ replyNumber reply) × Reads number reply
+reads-number reply is same readable fits =
+    let number-is = is ∙ ap replyNumber same in
+    (number-is, subst (λ r. Reads r reply) (sym number-is) (reads-back reply readable (subst Fitting same fits)))
 
 -- a refusal's number fits the lowest byte, and is not 0
 abbrev isNumbered : Refusal → Bool
@@ -76,6 +91,10 @@ judged-numbered {A} P (r ∷ rs) refuse accept all p q =
 replied-readable : (rs : List Refusal) (values : List ℕ) → areNumbered rs ≡ true → Readable (replied rs values)
 replied-readable rs values all = judged-numbered Readable rs refused (accepted values) all refused-readable (accepted-readable values)
 
+unreported-readable : (reply : Reply) → Readable reply → Readable (unreported reply)
+unreported-readable (refused number) readable = readable
+unreported-readable (accepted values) readable = accepted-readable (0 ∷ values)
+
 abbrev TurnedReadable : Turned → Type 0
 TurnedReadable t = Readable (outcomeReply (outcomeOf t))
 
@@ -102,13 +121,15 @@ module _ (arena : List ℕ) where
   unfolding startAnswer startRefusals callRefusals headerRefusals
   start-readable worker operation key = replied-readable (startRefusals arena worker operation key) [] refl
 
-  pub snapshot-readable : (room : ℕ) → Readable (snapshotAnswer arena room)
+  pub snapshot-readable : (room : ℕ) → Readable (unreported (snapshotAnswer arena room))
   unfolding snapshotAnswer snapshotRefusals chainRefusals chainBroken chainTooLong headerRefusals
-  snapshot-readable room = replied-readable (snapshotRefusals arena room) _ refl
+  snapshot-readable room = unreported-readable (snapshotAnswer arena room) (replied-readable (snapshotRefusals arena room) _ refl)
 
-  pub run-readable : (workers nodes : ℕ) (schedule : List ℕ) (room : ℕ) → Readable (runAnswer arena workers nodes schedule room)
+  pub run-readable : (workers nodes : ℕ) (schedule : List ℕ) (callRoom waitRoom : ℕ) →
+      Readable (runAnswer arena workers nodes schedule callRoom waitRoom)
   unfolding runAnswer runRefusals
-  run-readable workers nodes schedule room = replied-readable (runRefusals arena workers nodes schedule room) _ refl
+  run-readable workers nodes schedule callRoom waitRoom =
+      replied-readable (runRefusals arena workers nodes schedule callRoom waitRoom) _ refl
 
   pub turn-readable : (worker : ℕ) → Readable (turnAnswer arena worker)
   unfolding turnAnswer turnOn workerRefusals headerRefusals

@@ -7,15 +7,15 @@ ghost use Rattle.arena.specs.Start.{startAnswer, startArena};
 ghost use Rattle.arena.specs.Snapshot.{snapshotAnswer, snapshotWords};
 ghost use Rattle.lazy.specs.Turn.{turnAnswer, turnArena};
 ghost use Rattle.linear.specs.Linearizable.{Linearizable};
-ghost use Rattle.schedule.specs.Run.{entriesOf, callWidth, summaryReply, runAnswer, runArena, runWords};
-ghost use Rattle.capi.specs.Number.{replyNumber, bare, valuesOr};
+ghost use Rattle.schedule.specs.Run.{entriesOf, callWidth, waitWidth, summaryReply, runAnswer, runArena, runCallWords, runWaitWords};
+ghost use Rattle.capi.specs.Number.{replyNumber, unreported, Reads, bare, valuesOr};
 use schedule::Summary;
 
 mod number;
 
 // Lays a fresh arena.
 #[no_mangle]
-pub extern "C" fn lazy_list_init(arena: &mut [u16], workers: u16, nodes: u16) -> u32
+pub extern "C" fn lazy_list_init(arena: &mut [u16], workers: u16, nodes: u16) -> u64
     ensures number { λ r. ⌜ r ≡ replyNumber (initAnswer (now (arena .entry)) workers nodes) ⌝ }
     ensures words { λ _. ⌜ now (arena .exit) ≡ initArena (now (arena .entry)) workers nodes ⌝ }
 {
@@ -24,7 +24,7 @@ pub extern "C" fn lazy_list_init(arena: &mut [u16], workers: u16, nodes: u16) ->
 
 // Starts a call on a worker.
 #[no_mangle]
-pub extern "C" fn lazy_list_start(arena: &mut [u16], worker: u16, operation: u16, key: u16) -> u32
+pub extern "C" fn lazy_list_start(arena: &mut [u16], worker: u16, operation: u16, key: u16) -> u64
     ensures number { λ r. ⌜ r ≡ replyNumber (startAnswer (now (arena .entry)) worker operation key) ⌝ }
     ensures words { λ _. ⌜ now (arena .exit) ≡ startArena (now (arena .entry)) worker operation key ⌝ }
 {
@@ -33,8 +33,9 @@ pub extern "C" fn lazy_list_start(arena: &mut [u16], worker: u16, operation: u16
 
 // Gives a worker a turn.
 #[no_mangle]
-pub extern "C" fn lazy_list_turn(arena: &mut [u16], worker: u16) -> u32
+pub extern "C" fn lazy_list_turn(arena: &mut [u16], worker: u16) -> u64
     ensures number { λ r. ⌜ r ≡ replyNumber (turnAnswer (now (arena .entry)) worker) ⌝ }
+    ensures read { λ r. ⌜ Reads r (turnAnswer (now (arena .entry)) worker) ⌝ }
     ensures words { λ _. ⌜ now (arena .exit) ≡ turnArena (now (arena .entry)) worker ⌝ }
 {
     number::of_outcome(lazy::turn(arena, worker))
@@ -42,8 +43,9 @@ pub extern "C" fn lazy_list_turn(arena: &mut [u16], worker: u16) -> u32
 
 // The keys on the chain, in chain order.
 #[no_mangle]
-pub extern "C" fn lazy_list_snapshot(arena: &[u16], keys: &mut [u16]) -> u32
-    ensures number { λ r. ⌜ r ≡ replyNumber (snapshotAnswer (now (arena .entry)) (length (now (keys .entry)))) ⌝ }
+pub extern "C" fn lazy_list_snapshot(arena: &[u16], keys: &mut [u16]) -> u64
+    ensures number { λ r. ⌜ r ≡ replyNumber (unreported (snapshotAnswer (now (arena .entry)) (length (now (keys .entry))))) ⌝ }
+    ensures read { λ r. ⌜ Reads r (unreported (snapshotAnswer (now (arena .entry)) (length (now (keys .entry))))) ⌝ }
     ensures words { λ _. ⌜ now (keys .exit) ≡ snapshotWords (now (arena .entry)) (now (keys .entry)) ⌝ }
 {
     number::of_listing(arena::snapshot(arena, keys))
@@ -57,19 +59,22 @@ pub extern "C" fn lazy_list_run(
     nodes: u16,
     schedule: &[u16],
     history: &mut [u16],
+    waits: &mut [u16],
     totals: &mut [u16; 4],
-) -> u32
-    ensures number { λ r. ⌜ r ≡ replyNumber (bare
-        (runAnswer (now (arena .entry)) workers nodes (now (schedule .entry)) (length (now (history .entry)) / callWidth))) ⌝ }
-    ensures words { λ _. ⌜ now (arena .exit)
-        ≡ runArena (now (arena .entry)) workers nodes (now (schedule .entry)) (length (now (history .entry)) / callWidth) ⌝ }
-    ensures calls { λ _. ⌜ now (history .exit)
-        ≡ runWords (now (arena .entry)) workers nodes (now (schedule .entry)) (now (history .entry)) ⌝ }
-    ensures totals { λ _. ⌜ now (totals .exit) ≡ valuesOr (now (totals .entry))
-        (runAnswer (now (arena .entry)) workers nodes (now (schedule .entry)) (length (now (history .entry)) / callWidth)) ⌝ }
+) -> u64
+    ensures number { λ r. ⌜ r ≡ replyNumber (bare (runAnswer (now (arena .entry)) workers nodes (now (schedule .entry))
+        (length (now (history .entry)) / callWidth) (length (now (waits .entry)) / waitWidth))) ⌝ }
+    ensures words { λ _. ⌜ now (arena .exit) ≡ runArena (now (arena .entry)) workers nodes (now (schedule .entry))
+        (length (now (history .entry)) / callWidth) (length (now (waits .entry)) / waitWidth) ⌝ }
+    ensures calls { λ _. ⌜ now (history .exit) ≡ runCallWords (now (arena .entry)) workers nodes (now (schedule .entry))
+        (now (history .entry)) (now (waits .entry)) ⌝ }
+    ensures waits { λ _. ⌜ now (waits .exit) ≡ runWaitWords (now (arena .entry)) workers nodes (now (schedule .entry))
+        (now (history .entry)) (now (waits .entry)) ⌝ }
+    ensures totals { λ _. ⌜ now (totals .exit) ≡ valuesOr (now (totals .entry)) (runAnswer (now (arena .entry)) workers nodes
+        (now (schedule .entry)) (length (now (history .entry)) / callWidth) (length (now (waits .entry)) / waitWidth)) ⌝ }
     ensures linearizable { λ r. ⌜ (r ≡ 0 → Linearizable (freshWords workers nodes) (entriesOf (now (schedule .entry)))) ⌝ }
 {
-    let summary = schedule::run(arena, workers, nodes, schedule, history);
+    let summary = schedule::run(arena, workers, nodes, schedule, history, waits);
     write_totals(totals, summary);
     number::of_summary(summary)
 }

@@ -4,7 +4,7 @@ ghost use Rattle.worker.specs.Report.{answerNumber};
 ghost use Rattle.arena.specs.Replies.{verdictReply, listingReply};
 ghost use Rattle.lazy.specs.Turn.{outcomeReply};
 ghost use Rattle.schedule.specs.Run.{summaryReply};
-ghost use Rattle.capi.specs.Number.{replyNumber, bare};
+ghost use Rattle.capi.specs.Number.{replyNumber, unreported, Fitting, bare};
 use arena::Listing;
 use arena::Verdict;
 use lazy::Outcome;
@@ -12,44 +12,55 @@ use schedule::Summary;
 use worker::Answer;
 use worker::Report;
 
-pub(crate) fn of_verdict(verdict: Verdict) -> u32
+// Where a report and two values stand, above the byte of the refusal.
+const REPORT: u64 = 256;
+
+const FIRST: u64 = 65536;
+
+const SECOND: u64 = 4294967296;
+
+pub(crate) fn of_verdict(verdict: Verdict) -> u64
     ensures { λ r. ⌜ r ≡ replyNumber (verdictReply verdict) ⌝ }
 {
     match verdict {
         Verdict::Accepted => 0,
-        Verdict::Refused(number) => number as u32,
+        Verdict::Refused(number) => number as u64,
     }
 }
 
-pub(crate) fn of_listing(listing: Listing) -> u32
-    ensures { λ r. ⌜ r ≡ replyNumber (listingReply listing) ⌝ }
+pub(crate) fn of_listing(listing: Listing) -> u64
+    ensures number { λ r. ⌜ r ≡ replyNumber (unreported (listingReply listing)) ⌝ }
+    ensures fitting { λ _. ⌜ Fitting (unreported (listingReply listing)) ⌝ }
 {
     match listing {
-        Listing::Keys(count) => 256 * (count as u32),
-        Listing::Refused(number) => number as u32,
+        Listing::Keys(count) => FIRST * (count as u64),
+        Listing::Refused(number) => number as u64,
     }
 }
 
-pub(crate) fn of_summary(summary: Summary) -> u32
+pub(crate) fn of_summary(summary: Summary) -> u64
     ensures { λ r. ⌜ r ≡ replyNumber (bare (summaryReply summary)) ⌝ }
 {
     match summary {
         Summary::Done(_) => 0,
-        Summary::Refused(number) => number as u32,
+        Summary::Refused(number) => number as u64,
     }
 }
 
-pub(crate) fn of_outcome(outcome: Outcome) -> u32
-    ensures { λ r. ⌜ r ≡ replyNumber (outcomeReply outcome) ⌝ }
+pub(crate) fn of_outcome(outcome: Outcome) -> u64
+    ensures number { λ r. ⌜ r ≡ replyNumber (outcomeReply outcome) ⌝ }
+    ensures fitting { λ _. ⌜ Fitting (outcomeReply outcome) ⌝ }
 {
     match outcome {
         Outcome::Reported(report) => match report {
             Report::Idle => 0,
-            Report::Moved(stage) => 256 * (1 + 256 * (stage as u32)),
-            Report::Waits => 256 * 2,
-            Report::Finished(answer) => 256 * (3 + 256 * (of_answer(answer) as u32)),
+            Report::Moved(stage) => REPORT + FIRST * (stage as u64),
+            Report::Waits(node, worker) => {
+                2 * REPORT + FIRST * (node as u64) + SECOND * (worker as u64)
+            }
+            Report::Finished(answer) => 3 * REPORT + FIRST * (of_answer(answer) as u64),
         },
-        Outcome::Refused(number) => number as u32,
+        Outcome::Refused(number) => number as u64,
     }
 }
 
