@@ -51,7 +51,7 @@ pub const OWNER: usize = 3;
 pub const IDLE_WORKER: [u16; WORKER_WORDS] = [0, 0, 0, NONE, NONE, NONE, 0, 0];
 
 /// The counts of an arena; they fix where everything stands.
-#[derive(Clone, Copy, Debug, PartialEq, Eq)]
+#[derive(Clone, Copy, Debug, Default, PartialEq, Eq)]
 pub struct Shape {
     pub workers: u16,
     pub nodes: u16,

@@ -1,12 +1,15 @@
-//! The bench program of document 01 ("Dagmar's bench program"), byte for byte.
+//! The bench program of document 01 ("Dagmar's bench program") with the waits of document 02, byte
+//! for byte.
 
 use crate::arena::*;
-use crate::run::{run_traced, Call, Trace};
+use crate::run::{run_traced, Call, Room, Trace, Wait};
 use crate::turn::Answer;
 
 pub const MAX_BYTES: usize = 16_384;
 pub const MAX_ENTRIES: usize = 4_000;
+/// Records in each row; no input has more turns than the second one holds.
 pub const MAX_RECORDS: usize = 1_000;
+pub const MAX_WAITS: usize = 4_000;
 
 /// What the bench makes of an input.
 pub enum Outcome {
@@ -33,13 +36,11 @@ pub fn evaluate(input: &[u8]) -> Outcome {
         Err(line) => return Outcome::BadLine(line),
     };
     let mut arena = vec![0; MAX_WORDS];
-    match run_traced(
-        &mut arena,
-        good.workers,
-        good.nodes,
-        &good.schedule,
-        MAX_RECORDS,
-    ) {
+    let room = Room {
+        calls: MAX_RECORDS,
+        waits: MAX_WAITS,
+    };
+    match run_traced(&mut arena, good.workers, good.nodes, &good.schedule, room) {
         Err(number) => Outcome::Refused(number),
         Ok(trace) => {
             let mut keys = vec![0; MAX_NODES as usize];
@@ -143,24 +144,35 @@ pub fn render(outcome: &Outcome) -> Vec<u8> {
     let text = match outcome {
         Outcome::BadLine(line) => format!("bad line {line}\n"),
         Outcome::Refused(number) => format!("refused {number}\n"),
-        Outcome::Ran(trace, keys) => {
-            let totals = trace.totals;
-            let mut text = format!(
-                "entries {} refused {} waits {} calls {}\n",
-                totals.entries, totals.refused, totals.waits, totals.calls
-            );
-            for call in &trace.calls {
-                text.push_str(&call_line(call));
-            }
-            text.push_str("roll");
-            for key in keys {
-                text.push_str(&format!(" {key}"));
-            }
-            text.push('\n');
-            text
-        }
+        Outcome::Ran(trace, keys) => run_lines(trace, keys),
     };
     text.into_bytes()
+}
+
+/// Totals, calls each with its waits behind it, roll.
+fn run_lines(trace: &Trace, keys: &[u16]) -> String {
+    let totals = trace.totals;
+    let mut text = format!(
+        "entries {} refused {} waits {} calls {}\n",
+        totals.entries, totals.refused, totals.waits, totals.calls
+    );
+    for (number, call) in trace.calls.iter().enumerate() {
+        text.push_str(&call_line(call));
+        let is_its_own = |wait: &&Wait| wait.call as usize == number;
+        for wait in trace.waits.iter().filter(is_its_own) {
+            text.push_str(&wait_line(wait));
+        }
+    }
+    text.push_str("roll");
+    for key in keys {
+        text.push_str(&format!(" {key}"));
+    }
+    text.push('\n');
+    text
+}
+
+fn wait_line(wait: &Wait) -> String {
+    format!("wait {} {} {}\n", wait.time, wait.node, wait.worker)
 }
 
 fn call_line(call: &Call) -> String {

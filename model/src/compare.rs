@@ -15,6 +15,7 @@ use crate::linearizable::{check_times, check_told, explained};
 use crate::run::Trace;
 use crate::sequential;
 use crate::tally::{Tally, SEARCHED, SEQUENTIAL};
+use crate::waits::check_waits;
 
 const THREADS: usize = 2;
 const MAX_PRINTED: u64 = 10;
@@ -112,7 +113,7 @@ impl Comparison {
     }
 }
 
-/// Checks a history of the model by its points and, if it is small, by search.
+/// Checks a history of the model by its points, its waits and, if it is small, by search.
 fn check_history(trace: &Trace, tally: &mut Tally) -> Result<(), String> {
     // Document 01: no turn from a fresh arena meets 6 or 7; a run has its own, so 1 and 2 are out.
     let only_known = [1, 2, 6, 7, 8, 9, 10]
@@ -125,6 +126,7 @@ fn check_history(trace: &Trace, tally: &mut Tally) -> Result<(), String> {
     let last_set = trace.sets.last().unwrap_or(&empty);
     check_times(&trace.calls)?;
     check_told(&trace.calls, &trace.told)?;
+    check_waits(trace)?;
     sequential::check(&trace.calls, last_set)?;
     tally.met(SEQUENTIAL, 1);
     match explained(&trace.calls, last_set) {

@@ -13,6 +13,7 @@ pub enum Kind {
     Small,
     Overtaken,
     HeldNodes,
+    InTheWay,
     Crowded,
     Long,
     Limit,
@@ -22,10 +23,11 @@ pub enum Kind {
 }
 
 impl Kind {
-    pub const ALL: [Kind; 9] = [
+    pub const ALL: [Kind; 10] = [
         Kind::Small,
         Kind::Overtaken,
         Kind::HeldNodes,
+        Kind::InTheWay,
         Kind::Crowded,
         Kind::Long,
         Kind::Limit,
@@ -39,6 +41,7 @@ impl Kind {
             Kind::Small => "small schedule",
             Kind::Overtaken => "overtaken look-up",
             Kind::HeldNodes => "held nodes",
+            Kind::InTheWay => "workers in the way",
             Kind::Crowded => "crowded schedule",
             Kind::Long => "long schedule",
             Kind::Limit => "at a limit",
@@ -57,7 +60,7 @@ pub struct Generated {
 }
 
 /// The kinds take turns in this order, so that every kind is met in a short comparison too.
-const ROUND: [Kind; 20] = [
+const ROUND: [Kind; 22] = [
     Kind::Small,
     Kind::Damaged,
     Kind::Limit,
@@ -68,6 +71,7 @@ const ROUND: [Kind; 20] = [
     Kind::TokenSoup,
     Kind::Small,
     Kind::Limit,
+    Kind::InTheWay,
     Kind::Damaged,
     Kind::Small,
     Kind::Crowded,
@@ -76,6 +80,7 @@ const ROUND: [Kind; 20] = [
     Kind::HeldNodes,
     Kind::RandomBytes,
     Kind::HeldNodes,
+    Kind::InTheWay,
     Kind::Small,
     Kind::Long,
 ];
@@ -94,6 +99,7 @@ pub fn generate(seed: u64, number: u64) -> Generated {
         Kind::Small => small(&mut rng).into_bytes(),
         Kind::Overtaken => scenes::overtaken(&mut rng).into_bytes(),
         Kind::HeldNodes => scenes::held_nodes(&mut rng).into_bytes(),
+        Kind::InTheWay => scenes::in_the_way(&mut rng).into_bytes(),
         Kind::Crowded => crowded(&mut rng).into_bytes(),
         Kind::Long => long(&mut rng).into_bytes(),
         Kind::Limit => {

@@ -1,4 +1,5 @@
-//! A second, independent reading of document 01, and a driver that compares it with a program.
+//! A second, independent reading of document 01, as the requests of document 02 change it, and a
+//! driver that compares it with a program.
 
 pub mod arena;
 pub mod bench;
@@ -15,7 +16,9 @@ pub mod script;
 pub mod selftest;
 pub mod selftest_plain;
 pub mod selftest_refusals;
+pub mod selftest_waits;
 pub mod selftest_words;
 pub mod sequential;
 pub mod tally;
 pub mod turn;
+pub mod waits;

@@ -83,6 +83,16 @@ pub const CASES: &[Case] = &[
         "entries 4000 refused 0 waits 0 calls 667\n",
         most_calls,
     ),
+    case(
+        "most waits",
+        "entries 4000 refused 0 waits 3991 calls 2\n",
+        |_| waiting(0),
+    ),
+    case(
+        "longest waits",
+        "entries 4000 refused 0 waits 3852 calls 11\n",
+        |_| waiting(9),
+    ),
     case("16384 bytes", "entries ", |rng| bytes(rng, MAX_BYTES)),
     case("16385 bytes", "bad line 0\n", |rng| {
         bytes(rng, MAX_BYTES + 1)
@@ -157,6 +167,21 @@ fn most_calls(rng: &mut Rng) -> Vec<u8> {
     }
     script.start(0, CONTAINS, 5);
     script.turns(0, 3);
+    script.into_bytes()
+}
+
+/// So many keys are stored from the far end, so that the first one has the node with the greatest
+/// number; there worker 0 stands still, and all that is left are turns of worker 1 that wait.
+fn waiting(stored: u16) -> Vec<u8> {
+    let mut script = Script::new(2, stored + 3);
+    for key in (1..=stored).rev() {
+        script.whole_call(0, ADD, 2 * key);
+    }
+    script.start(0, if stored == 0 { ADD } else { REMOVE }, 2);
+    script.advance(0, if stored == 0 { 7 } else { 8 });
+    script.start(1, ADD, 3);
+    let left = script.entries_left();
+    script.turns(1, left);
     script.into_bytes()
 }
 

@@ -10,20 +10,23 @@ use crate::turn::{turn, Answer, Report};
 pub const ENTRY_WORDS: usize = 3;
 /// Words of a call in the history: worker, operation, key, start, point, finish, answer.
 pub const CALL_WORDS: usize = 7;
+/// Words of a wait: the call's number, time, node, the worker in the way.
+pub const WAIT_WORDS: usize = 4;
 
 // Places of the words of a call that are not known at its start.
 const POINT: usize = 4;
 const FINISH: usize = 5;
 const CALL_ANSWER: usize = 6;
 
-/// Runs a schedule on an arena that it inits itself; the history is in flat words, and records past
-/// the calls stay. Refusals 10, 9, 1, 8.
+/// Runs a schedule on an arena that it inits itself; history and waits are in flat words, and words
+/// past their records stay. Refusals 10, 9, 1, 8.
 pub fn run(
     arena: &mut [u16],
     workers: u16,
     nodes: u16,
     schedule: &[u16],
     history: &mut [u16],
+    waits: &mut [u16],
 ) -> Result<Totals, u16> {
     let shape = Shape::new(workers, nodes).ok_or(BAD_COUNTS)?;
     if !schedule.len().is_multiple_of(ENTRY_WORDS) || schedule.len() > MAX_SCHEDULE_WORDS {
@@ -32,9 +35,8 @@ pub fn run(
     if arena.len() < shape.total() {
         return Err(SHORT_ARENA);
     }
-    let is_start = |entry: &&[u16]| (ADD..=CONTAINS).contains(&entry[1]);
-    let starts = schedule.chunks_exact(ENTRY_WORDS).filter(is_start).count();
-    if starts > history.len() / CALL_WORDS {
+    let (starts, turns) = count_acts(schedule);
+    if starts > history.len() / CALL_WORDS || turns > waits.len() / WAIT_WORDS {
         return Err(NO_ROOM);
     }
     init(arena, workers, nodes)?;
@@ -42,6 +44,7 @@ pub fn run(
         arena,
         shape,
         history,
+        waits,
         totals: Totals::default(),
         open: [OpenCall::default(); MAX_WORKERS as usize],
     };
@@ -51,19 +54,40 @@ pub fn run(
     Ok(run.totals)
 }
 
+/// How many entries have an operation, and how many are turns.
+fn count_acts(schedule: &[u16]) -> (usize, usize) {
+    let (mut starts, mut turns) = (0, 0);
+    for entry in schedule.chunks_exact(ENTRY_WORDS) {
+        match entry[1] {
+            0 => turns += 1,
+            ADD..=CONTAINS => starts += 1,
+            _ => {}
+        }
+    }
+    (starts, turns)
+}
+
 /// What is kept of a worker's call beside its record in the arena.
 #[derive(Clone, Copy, Default)]
 struct OpenCall {
-    /// Where its words begin in the history.
-    at: usize,
+    /// Calls are numbered from 0 in order of start.
+    number: u16,
     /// Of a contains, the first time at which its key was absent, or 0 up to then.
     absent: u16,
+}
+
+impl OpenCall {
+    /// Where its words begin in the history.
+    fn at(self) -> usize {
+        CALL_WORDS * self.number as usize
+    }
 }
 
 struct Run<'a> {
     arena: &'a mut [u16],
     shape: Shape,
     history: &'a mut [u16],
+    waits: &'a mut [u16],
     totals: Totals,
     /// Only a worker that is not idle has an open call; what stands here for others is old.
     open: [OpenCall; MAX_WORKERS as usize],
@@ -90,13 +114,15 @@ impl Run<'_> {
     fn start_entry(&mut self, worker: u16, operation: u16, key: u16) -> Result<(), u16> {
         start(self.arena, worker, operation, key)?;
         let time = self.time();
-        let at = CALL_WORDS * self.totals.calls as usize;
-        let words = [worker, operation, key, time, 0, 0, 0];
-        self.history[at..at + CALL_WORDS].copy_from_slice(&words);
-        self.totals.calls += 1;
         let misses = operation == CONTAINS && !self.is_present(key);
-        let absent = if misses { time } else { 0 };
-        self.open[worker as usize] = OpenCall { at, absent };
+        let call = OpenCall {
+            number: self.totals.calls,
+            absent: if misses { time } else { 0 },
+        };
+        let words = [worker, operation, key, time, 0, 0, 0];
+        self.history[call.at()..][..CALL_WORDS].copy_from_slice(&words);
+        self.totals.calls += 1;
+        self.open[worker as usize] = call;
         Ok(())
     }
 
@@ -107,14 +133,24 @@ impl Run<'_> {
         let stage = self.arena[self.shape.worker_at(worker) + STAGE];
         match turn(self.arena, worker)? {
             Report::Idle => {}
-            Report::Waits => self.totals.waits += 1,
+            Report::Waits {
+                node,
+                worker: owner,
+            } => self.waited(worker, node, owner),
             Report::Moved(to) => self.moved(worker, stage, to),
             Report::Finished(_) => {
-                let call = self.open[worker as usize].at;
+                let call = self.open[worker as usize].at();
                 self.history[call + FINISH] = self.time();
             }
         }
         Ok(())
+    }
+
+    fn waited(&mut self, worker: u16, node: u16, owner: u16) {
+        let at = WAIT_WORDS * self.totals.waits as usize;
+        let words = [self.open[worker as usize].number, self.time(), node, owner];
+        self.waits[at..at + WAIT_WORDS].copy_from_slice(&words);
+        self.totals.waits += 1;
     }
 
     /// Where the move shows that an answer was decided, the call gets its point and answer.
@@ -127,10 +163,11 @@ impl Run<'_> {
         if stage == 16 {
             self.miss(self.arena[at + CALL_KEY]);
         }
-        let OpenCall { at: call, absent } = self.open[worker as usize];
+        let call = self.open[worker as usize];
         let looks_back = stage >= 23 && answer == Answer::No.number();
-        self.history[call + POINT] = if looks_back { absent } else { self.time() };
-        self.history[call + CALL_ANSWER] = answer;
+        let point = if looks_back { call.absent } else { self.time() };
+        self.history[call.at() + POINT] = point;
+        self.history[call.at() + CALL_ANSWER] = answer;
     }
 
     /// The key has just left the set: an open contains that has not missed it yet misses it now.

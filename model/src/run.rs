@@ -24,6 +24,41 @@ impl Call {
     }
 }
 
+/// One record of the waits: the turn at `time` waited for `node`, which `worker` owns.
+#[derive(Clone, Copy, Debug, PartialEq, Eq)]
+pub struct Wait {
+    /// The number of the waiting worker's open call, from 0 in order of start.
+    pub call: u16,
+    pub time: u16,
+    pub node: u16,
+    pub worker: u16,
+}
+
+impl Wait {
+    /// As they stand in the second row.
+    pub fn words(self) -> [u16; 4] {
+        [self.call, self.time, self.node, self.worker]
+    }
+}
+
+/// How many records the two lent rows hold.
+#[derive(Clone, Copy, Debug)]
+pub struct Room {
+    pub calls: usize,
+    pub waits: usize,
+}
+
+impl Room {
+    /// Whether a schedule fits: a record for each entry with act 1 to 3 and one for each turn,
+    /// refused or not.
+    pub fn is_enough(self, schedule: &[u16]) -> bool {
+        let acts = || schedule.chunks(3).map(|entry| entry[1]);
+        let starts = acts().filter(|act| (ADD..=CONTAINS).contains(act)).count();
+        let turns = acts().filter(|&act| act == 0).count();
+        starts <= self.calls && turns <= self.waits
+    }
+}
+
 #[derive(Clone, Copy, Debug, Default, PartialEq, Eq)]
 pub struct Totals {
     pub entries: u16,
@@ -35,8 +70,13 @@ pub struct Totals {
 /// A run with all that the checks and the table want to know of it.
 #[derive(Debug, Default)]
 pub struct Trace {
+    pub shape: Shape,
     pub totals: Totals,
     pub calls: Vec<Call>,
+    /// In order of time.
+    pub waits: Vec<Wait>,
+    /// The worker that each entry names; the first is that of time 1.
+    pub entry_workers: Vec<u16>,
     /// Per call the time of the turn that decided its answer, or 0.
     pub decided: Vec<u16>,
     /// Per call the answer that its worker reported at its finish, or 0.
@@ -54,26 +94,13 @@ pub struct Trace {
     taken_nodes: Vec<u16>,
 }
 
-/// Runs a schedule on an arena that it inits itself; the history has room for `row_len` records.
-/// Refusals 10, 9, 1, 8.
-pub fn run(
-    arena: &mut [u16],
-    workers: u16,
-    nodes: u16,
-    schedule: &[u16],
-    row_len: usize,
-) -> Result<(Totals, Vec<Call>), u16> {
-    let trace = run_traced(arena, workers, nodes, schedule, row_len)?;
-    Ok((trace.totals, trace.calls))
-}
-
-/// The same with everything seen on the way.
+/// Runs a schedule on an arena that it inits itself. Refusals 10, 9, 1, 8.
 pub fn run_traced(
     arena: &mut [u16],
     workers: u16,
     nodes: u16,
     schedule: &[u16],
-    row_len: usize,
+    room: Room,
 ) -> Result<Trace, u16> {
     let shape = Shape::new(workers, nodes).ok_or(BAD_COUNTS)?;
     if !schedule.len().is_multiple_of(3) || schedule.len() > MAX_SCHEDULE_WORDS {
@@ -82,24 +109,27 @@ pub fn run_traced(
     if arena.len() < shape.total() {
         return Err(SHORT_ARENA);
     }
-    let is_start = |entry: &&[u16]| (ADD..=CONTAINS).contains(&entry[1]);
-    if schedule.chunks(3).filter(is_start).count() > row_len {
+    if !room.is_enough(schedule) {
         return Err(NO_ROOM);
     }
     init(arena, workers, nodes)?;
-    let mut trace = Trace::default();
+    let mut trace = Trace {
+        shape,
+        ..Trace::default()
+    };
     trace.sets.push(set(arena));
     for entry in schedule.chunks(3) {
-        trace.entry(arena, shape, entry[0], entry[1], entry[2]);
+        trace.entry(arena, entry[0], entry[1], entry[2]);
     }
     Ok(trace)
 }
 
 impl Trace {
-    fn entry(&mut self, arena: &mut [u16], shape: Shape, worker: u16, act: u16, key: u16) {
+    fn entry(&mut self, arena: &mut [u16], worker: u16, act: u16, key: u16) {
         self.totals.entries += 1;
+        self.entry_workers.push(worker);
         let done = if act == 0 {
-            self.turn_entry(arena, shape, worker)
+            self.turn_entry(arena, worker)
         } else {
             self.start_entry(arena, worker, act, key)
         };
@@ -138,7 +168,8 @@ impl Trace {
         Ok(())
     }
 
-    fn turn_entry(&mut self, arena: &mut [u16], shape: Shape, worker: u16) -> Result<(), u16> {
+    fn turn_entry(&mut self, arena: &mut [u16], worker: u16) -> Result<(), u16> {
+        let shape = self.shape;
         let stage_before = if worker < shape.workers {
             arena[shape.worker_at(worker) + STAGE]
         } else {
@@ -146,8 +177,14 @@ impl Trace {
         };
         let report = turn(arena, worker)?;
         self.sets.push(set(arena));
+        self.totals.waits += u16::from(matches!(report, Report::Waits { .. }));
         match (report, self.current[worker as usize]) {
-            (Report::Waits, _) => self.totals.waits += 1,
+            (Report::Waits { node, worker }, Some(call)) => self.waits.push(Wait {
+                call: call as u16,
+                time: self.time(),
+                node,
+                worker,
+            }),
             (Report::Finished(answer), Some(call)) => {
                 self.calls[call].finish = self.time();
                 self.told[call] = answer.number();

@@ -105,3 +105,40 @@ fn held_by_spare(rng: &mut Rng) -> Script {
     script.finish(1);
     script
 }
+
+/// Again and again one worker stands still with a node or two in its hands, and others run into it
+/// and wait; then it goes on, and they are in each other's way.
+pub fn in_the_way(rng: &mut Rng) -> Script {
+    let workers = rng.word(2, 5);
+    let mut script = Script::new(workers, rng.word(4, 14));
+    let greatest_key = rng.word(2, 8);
+    for key in (2..=greatest_key).step_by(2) {
+        script.whole_call(0, ADD, key);
+    }
+    for _ in 0..rng.range(1, 8) {
+        let holder = rng.word(0, workers - 1);
+        let stage = *rng.pick(&[7, 8, 10, 15, 17, 19, 20]);
+        change_near(rng, &mut script, holder, greatest_key, stage);
+        for _ in 0..rng.range(1, 4) {
+            let other = rng.word(0, workers - 1);
+            change_near(rng, &mut script, other, greatest_key, 0);
+            if !script.is_idle(other) {
+                let waits = rng.range(1, 3) as usize;
+                script.turns_that_fit(other, waits);
+            }
+        }
+        if rng.chance(80) {
+            script.finish(holder);
+        }
+    }
+    script
+}
+
+/// Takes a worker's add or remove, a new one if it is idle, up to a stage or to where it waits.
+fn change_near(rng: &mut Rng, script: &mut Script, worker: u16, greatest_key: u16, stage: u16) {
+    if script.is_idle(worker) {
+        let operation = rng.word(ADD, REMOVE);
+        script.start(worker, operation, rng.word(1, greatest_key));
+    }
+    script.advance(worker, stage);
+}

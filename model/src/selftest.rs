@@ -9,6 +9,7 @@ use crate::rng::Rng;
 use crate::run::Call;
 use crate::selftest_plain;
 use crate::selftest_refusals;
+use crate::selftest_waits;
 use crate::selftest_words;
 use crate::sequential;
 use crate::turn::{turn, Answer, Report};
@@ -108,6 +109,7 @@ pub fn selftest() -> Checks {
     wrong_histories(&mut checks);
     told_answers(&mut checks);
     selftest_refusals::refusals(&mut checks);
+    selftest_waits::waits(&mut checks);
     selftest_words::any_words(&mut checks);
     selftest_plain::plain_runs(&mut checks);
     checks
@@ -153,7 +155,10 @@ fn second_add_waits(checks: &mut Checks) {
         Report::Moved(2),
         Report::Moved(3),
         Report::Moved(6),
-        Report::Waits,
+        Report::Waits {
+            node: HEAD,
+            worker: 0,
+        },
     ];
     checks.check("worker 1 waits at 6", reports == expected.map(Ok));
 }

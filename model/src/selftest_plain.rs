@@ -1,10 +1,12 @@
 //! The plain run beside the one that is written for checking.
 
+use std::ops::RangeInclusive;
+
 use crate::arena::*;
 use crate::plain;
-use crate::plain::{CALL_WORDS, ENTRY_WORDS};
+use crate::plain::{CALL_WORDS, ENTRY_WORDS, WAIT_WORDS};
 use crate::rng::Rng;
-use crate::run::{run_traced, Call, Trace, MAX_SCHEDULE_WORDS};
+use crate::run::{run_traced, Call, Room, Trace, MAX_SCHEDULE_WORDS};
 use crate::selftest::Checks;
 
 const INPUTS: u64 = 500;
@@ -17,6 +19,7 @@ struct Input {
     arena_words: usize,
     schedule: Vec<u16>,
     history_words: usize,
+    waits_words: usize,
 }
 
 /// A whole number that is mostly good, and else one from a short list.
@@ -64,23 +67,36 @@ fn random_input(rng: &mut Rng) -> Input {
     if rng.chance(2) {
         schedule.resize(MAX_SCHEDULE_WORDS + ENTRY_WORDS, 0);
     }
-    let is_start = |entry: &&[u16]| (ADD..=CONTAINS).contains(&entry[1]);
-    let starts = schedule.chunks(ENTRY_WORDS).filter(is_start).count();
-    let spare_room = *rng.pick(&[0, 1, 5]);
-    let missing_room = usize::from(rng.chance(5));
+    let history_words = row_words(rng, &schedule, ADD..=CONTAINS, CALL_WORDS);
+    let waits_words = row_words(rng, &schedule, 0..=0, WAIT_WORDS);
     let missing_words = if rng.chance(3) { 4 } else { 0 };
     if rng.chance(3) {
         schedule.push(0);
     }
     let total = Shape { workers, nodes }.total();
-    let room = (starts + spare_room).saturating_sub(missing_room);
     Input {
         workers: mostly(rng, workers, &[0, 9, 65_535]),
         nodes: mostly(rng, nodes, &[0, 2, 1_025, 65_535]),
         arena_words: total + rng.index(4) - missing_words,
         schedule,
-        history_words: CALL_WORDS * room + rng.index(CALL_WORDS),
+        history_words,
+        waits_words,
     }
+}
+
+/// Words of a row with a record for each entry with such an act: now and then more, or one too few.
+fn row_words(
+    rng: &mut Rng,
+    schedule: &[u16],
+    acts: RangeInclusive<u16>,
+    record_words: usize,
+) -> usize {
+    let entries = schedule.chunks(ENTRY_WORDS);
+    let needed = entries.filter(|entry| acts.contains(&entry[1])).count();
+    let spare = *rng.pick(&[0, 1, 5]);
+    let missing = usize::from(rng.chance(5));
+    let records = (needed + spare).saturating_sub(missing);
+    record_words * records + rng.index(record_words)
 }
 
 fn call_words(call: &Call) -> [u16; CALL_WORDS] {
@@ -103,10 +119,12 @@ struct Met {
     overtaken: u32,
     /// Those of them whose key was back when they answered.
     overtaken_twice: u32,
+    waits: usize,
 }
 
 impl Met {
     fn note(&mut self, trace: &Trace) {
+        self.waits += trace.waits.len();
         for (call, decided) in trace.calls.iter().zip(&trace.decided) {
             if call.is_contains_no() && call.point > call.start {
                 self.overtaken += 1;
@@ -119,25 +137,55 @@ impl Met {
 
 /// True if both runs answer and write the same.
 fn same_run(input: &Input, met: &mut Met) -> bool {
-    let mut arena = vec![UNTOUCHED; input.arena_words];
-    let mut traced_arena = arena.clone();
-    let mut history = vec![UNTOUCHED; input.history_words];
-    let mut expected = history.clone();
-    let room = input.history_words / CALL_WORDS;
+    let mut lent = Lent::new(input);
+    let mut expected = Lent::new(input);
+    let room = Room {
+        calls: input.history_words / CALL_WORDS,
+        waits: input.waits_words / WAIT_WORDS,
+    };
     let (workers, nodes, schedule) = (input.workers, input.nodes, &input.schedule);
-    let traced = run_traced(&mut traced_arena, workers, nodes, schedule, room);
-    let answer = plain::run(&mut arena, workers, nodes, schedule, &mut history);
+    let traced = run_traced(&mut expected.arena, workers, nodes, schedule, room);
+    let Lent {
+        arena,
+        history,
+        waits,
+    } = &mut lent;
+    let answer = plain::run(arena, workers, nodes, schedule, history, waits);
     match &traced {
         Err(number) => met.refusals[*number as usize] += 1,
         Ok(trace) => {
             met.note(trace);
-            for (words, call) in expected.chunks_mut(CALL_WORDS).zip(&trace.calls) {
-                words.copy_from_slice(&call_words(call));
-            }
+            expected.write(trace);
         }
     }
-    let totals = traced.map(|trace| trace.totals);
-    answer == totals && arena == traced_arena && history == expected
+    answer == traced.map(|trace| trace.totals) && lent == expected
+}
+
+/// The words that a run is lent.
+#[derive(PartialEq, Eq)]
+struct Lent {
+    arena: Vec<u16>,
+    history: Vec<u16>,
+    waits: Vec<u16>,
+}
+
+impl Lent {
+    fn new(input: &Input) -> Lent {
+        Lent {
+            arena: vec![UNTOUCHED; input.arena_words],
+            history: vec![UNTOUCHED; input.history_words],
+            waits: vec![UNTOUCHED; input.waits_words],
+        }
+    }
+
+    fn write(&mut self, trace: &Trace) {
+        for (words, call) in self.history.chunks_mut(CALL_WORDS).zip(&trace.calls) {
+            words.copy_from_slice(&call_words(call));
+        }
+        for (words, wait) in self.waits.chunks_mut(WAIT_WORDS).zip(&trace.waits) {
+            words.copy_from_slice(&wait.words());
+        }
+    }
 }
 
 pub fn plain_runs(checks: &mut Checks) {
@@ -153,4 +201,5 @@ pub fn plain_runs(checks: &mut Checks) {
     }
     checks.check("plain run meets overtaken look-ups", met.overtaken > 100);
     checks.check("and with the key back", met.overtaken_twice > 10);
+    checks.check("plain run meets waits", met.waits > 10_000);
 }

@@ -1,7 +1,7 @@
 //! Checks of the refusals, each on arenas where the later ones would apply too.
 
 use crate::arena::*;
-use crate::run::run;
+use crate::run::{run_traced, Room, Trace};
 use crate::selftest::{fresh, Checks};
 use crate::turn::turn;
 
@@ -37,6 +37,18 @@ fn refused<T>(
     );
 }
 
+/// A run with room for so many calls, and for any number of waits.
+fn run(
+    arena: &mut [u16],
+    workers: u16,
+    nodes: u16,
+    schedule: &[u16],
+    calls: usize,
+) -> Result<Trace, u16> {
+    let waits = usize::MAX;
+    run_traced(arena, workers, nodes, schedule, Room { calls, waits })
+}
+
 /// In each row one more fault is repaired.
 fn order_of_init_and_run(checks: &mut Checks) {
     let words = |count| vec![7; count];
@@ -55,14 +67,14 @@ fn order_of_init_and_run(checks: &mut Checks) {
     let done = run(&mut words(40), 2, 4, &even, 1);
     checks.check(
         "run accepted",
-        done.is_ok_and(|(totals, _)| totals.calls == 1),
+        done.is_ok_and(|trace| trace.totals.calls == 1),
     );
     // A refused start needs a record too, but an act above 3 and a turn need none.
     let others = [9, 0, 0, 0, 4, 5, 0, 65_535, 5];
     let done = run(&mut words(40), 2, 4, &others, 0);
     checks.check(
         "run, bad acts",
-        done.is_ok_and(|(totals, _)| totals.refused == 3),
+        done.is_ok_and(|trace| trace.totals.refused == 3),
     );
     let refused_start = [9, 3, 5];
     refused(checks, "run", 8, words(40), |a| {
@@ -71,7 +83,7 @@ fn order_of_init_and_run(checks: &mut Checks) {
     let long = run(&mut words(40), 2, 4, &[0; 12_000], 0);
     checks.check(
         "run of 4000",
-        long.is_ok_and(|(totals, _)| totals.entries == 4_000),
+        long.is_ok_and(|trace| trace.totals.entries == 4_000),
     );
 }
 

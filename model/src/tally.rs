@@ -1,11 +1,12 @@
 //! Counts of what the comparison has met; a count of 0 is a failed check.
 
-use std::collections::BTreeMap;
+use std::collections::{BTreeMap, HashSet};
 
+use crate::arena::{HEAD, TAIL};
 use crate::bench::Outcome;
 use crate::damage::{DAMAGES, SEVERAL};
 use crate::generate::{Generated, Kind};
-use crate::run::Trace;
+use crate::run::{Trace, Wait};
 use crate::turn::Answer;
 
 pub const SEQUENTIAL: &str = "histories fed to the sequential set";
@@ -19,6 +20,14 @@ const ENTRY_REFUSED: [(&str, usize); 3] = [
     ("entries refused 5", 5),
 ];
 const WAITS: &str = "waits";
+const WAITED_AGAIN: &str = "calls with several waits";
+const WAITED_FOR_MORE: &str = "calls that waited for several workers";
+const NOT_LAST: &str = "waits of a call that is not the last";
+const LATER_CALL: &str = "waits of a worker's later call";
+const BY_TURNS: &str = "waits after one of a later call";
+const FOR_HEAD: &str = "waits for Head";
+const FOR_TAIL: &str = "waits for Tail";
+const FOR_OTHERS: &str = "waits for other nodes";
 const RETRIES: &str = "retries (turns at 11)";
 const REUSED: &str = "nodes reused";
 const FULL: &str = "full answers";
@@ -50,6 +59,14 @@ impl Tally {
             BAD_LINE_0,
             REFUSED_8,
             WAITS,
+            WAITED_AGAIN,
+            WAITED_FOR_MORE,
+            NOT_LAST,
+            LATER_CALL,
+            BY_TURNS,
+            FOR_HEAD,
+            FOR_TAIL,
+            FOR_OTHERS,
             RETRIES,
             REUSED,
             FULL,
@@ -115,7 +132,8 @@ impl Tally {
     fn note_run(&mut self, trace: &Trace) {
         self.largest("entries", trace.totals.entries as usize);
         self.largest("calls", trace.calls.len());
-        self.met(WAITS, u64::from(trace.totals.waits));
+        self.largest("waits", trace.waits.len());
+        self.note_waits(trace);
         self.met(RETRIES, u64::from(trace.retries));
         self.met(REUSED, u64::from(trace.reused_nodes));
         for (name, number) in ENTRY_REFUSED {
@@ -134,6 +152,36 @@ impl Tally {
             self.met(LATE, u64::from(late));
             self.met(OVERTAKEN, u64::from(call.is_contains_no() && back_again));
         }
+    }
+
+    fn note_waits(&mut self, trace: &Trace) {
+        let mut last_of_calls: Vec<Option<Wait>> = vec![None; trace.calls.len()];
+        let (mut again, mut for_more) = (HashSet::new(), HashSet::new());
+        for wait in &trace.waits {
+            let number = wait.call as usize;
+            let worker = trace.calls[number].worker;
+            let is_later = trace.calls[..number].iter().any(|c| c.worker == worker);
+            self.met(WAITS, 1);
+            self.met(NOT_LAST, u64::from(number + 1 < trace.calls.len()));
+            self.met(LATER_CALL, u64::from(is_later));
+            self.met(FOR_HEAD, u64::from(wait.node == HEAD));
+            self.met(FOR_TAIL, u64::from(wait.node == TAIL));
+            self.met(
+                FOR_OTHERS,
+                u64::from(wait.node != HEAD && wait.node != TAIL),
+            );
+            if let Some(last) = last_of_calls[number].replace(*wait) {
+                again.insert(number);
+                if last.worker != wait.worker {
+                    for_more.insert(number);
+                }
+            }
+        }
+        let is_after_later = |pair: &&[Wait]| pair[0].call > pair[1].call;
+        let by_turns = trace.waits.windows(2).filter(is_after_later).count();
+        self.met(BY_TURNS, by_turns as u64);
+        self.met(WAITED_AGAIN, again.len() as u64);
+        self.met(WAITED_FOR_MORE, for_more.len() as u64);
     }
 
     pub fn merge(&mut self, other: &Tally) {

@@ -30,7 +30,11 @@ impl Answer {
 pub enum Report {
     Idle,
     Moved(u16),
-    Waits,
+    /// The node wanted, and the worker that owns it: the owner word less 1, whatever it is.
+    Waits {
+        node: u16,
+        worker: u16,
+    },
     Finished(Answer),
 }
 
@@ -93,10 +97,10 @@ impl Record {
     }
 }
 
-/// What a stage does: where to go on, or that the worker waits.
+/// What a stage does: where to go on, or whom the worker waits for, and at which node.
 enum Next {
     Stage(u16),
-    Wait,
+    Wait { node: u16, worker: u16 },
 }
 
 /// Gives a worker one turn. Refusals 1, 2, 3, 6, 7.
@@ -125,7 +129,7 @@ pub fn turn(arena: &mut [u16], worker: u16) -> Result<Report, u16> {
         }
     };
     match next {
-        Next::Wait => Ok(Report::Waits),
+        Next::Wait { node, worker } => Ok(Report::Waits { node, worker }),
         Next::Stage(stage) => {
             me.stage = stage;
             me.write(&mut arena[at..at + WORKER_WORDS]);
@@ -192,11 +196,13 @@ fn lock_or_test(me: &Record, arena: &mut [u16], shape: Shape, owner: u16) -> Nex
     let or_retry = |good: bool, to: u16| if good { to } else { 11 };
     let to = match me.stage {
         6 | 7 => {
-            let node = if me.stage == 6 { pred } else { curr };
-            if arena[node + OWNER] != 0 {
-                return Next::Wait;
+            let node = if me.stage == 6 { me.pred } else { me.curr };
+            let word = &mut arena[shape.node_at(node) + OWNER];
+            if *word != 0 {
+                let worker = *word - 1;
+                return Next::Wait { node, worker };
             }
-            arena[node + OWNER] = owner;
+            *word = owner;
             me.stage + 1
         }
         8 => or_retry(arena[pred + MARK] == 0, 9),
