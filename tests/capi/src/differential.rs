@@ -13,6 +13,7 @@ mod schedules;
 pub mod tally;
 pub mod wrong;
 mod wrong_others;
+mod wrong_runs;
 mod wrong_turns;
 
 use std::sync::atomic::{AtomicU64, Ordering};
@@ -24,6 +25,7 @@ use model::rng::Rng;
 use crate::library::Library;
 use arenas::{Arenas, Kind};
 use comparer::{Comparer, Outcome};
+use met::TurnWait;
 use requests::Request;
 use tally::Tally;
 
@@ -157,8 +159,14 @@ impl<'a> Examiner<'a> {
         let (reply, stage) = (outcome.model_reply, stage_before(words, request));
         let coverage = &mut self.tally.coverage;
         coverage.note(request.entry_point(), reply, stage, kind.is_reached());
-        let (history, totals) = self.comparer.last_run();
-        self.tally.met.note_reply(request, reply, history, totals);
+        if let Some(wait) = TurnWait::read(words, request, reply) {
+            if kind.is_reached() {
+                coverage.note_wait(wait.is_for_other_busy());
+            }
+            self.tally.met.note_wait(&wait);
+        }
+        let written = self.comparer.last_run();
+        self.tally.met.note_reply(request, reply, written);
         if self.tells_all {
             println!("{request}: the model's reply is {reply}");
         }

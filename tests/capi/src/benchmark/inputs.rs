@@ -1,12 +1,15 @@
 //! Arenas and schedules for both sides, made with the model and from fixed seeds.
 
+use std::ops::Range;
+
 use model::arena::*;
+use model::plain;
 use model::rng::Rng;
 use model::turn::{turn, Report};
 
 use crate::benchmark::measure::Words;
 use crate::benchmark::workloads::{Entries, Inits, Runs, SameTurn, Snapshots};
-use crate::library::CALL_WORDS;
+use crate::library::{CALL_WORDS, WAIT_WORDS};
 
 const SEED: u64 = 5;
 const WORKERS: u16 = MAX_WORKERS;
@@ -55,7 +58,7 @@ fn deal(
             entries.push([worker, operation, key]);
         } else {
             let report = turn(arena, worker).expect("a sound arena");
-            if report != Report::Waits || rng.chance(10) {
+            if !matches!(report, Report::Waits { .. }) || rng.chance(10) {
                 entries.push([worker, 0, 0]);
             }
         }
@@ -148,13 +151,49 @@ pub fn runs(nodes: u16, entries: usize, greatest_key: u16) -> Runs {
     let starts_in = |entries: &Vec<[u16; 3]>| entries.iter().filter(|entry| entry[1] != 0).count();
     let most_starts = schedules.iter().map(starts_in).max().unwrap_or(0);
     let history_words = CALL_WORDS * most_starts;
+    let waits_rows = waits_rows(&schedules, nodes);
+    let waits_words = waits_rows.iter().map(|row| row.end).max().unwrap_or(0);
     Runs {
-        words: Words::new(vec![0; fresh.len()], history_words * schedules.len()),
+        words: Words {
+            waits: vec![0; waits_words],
+            ..Words::new(vec![0; fresh.len()], history_words * schedules.len())
+        },
         workers: WORKERS,
         nodes,
         schedules: schedules.iter().map(|entries| entries.concat()).collect(),
         history_words,
+        waits_rows,
     }
+}
+
+/// Where the waits of each run are lent: with room for as many as it has entries, and from where
+/// those of the run before end, so that all are kept for comparing and little memory is touched.
+fn waits_rows(schedules: &[Vec<[u16; 3]>], nodes: u16) -> Vec<Range<usize>> {
+    let mut from = 0;
+    let mut row = |entries: &Vec<[u16; 3]>| {
+        let room = WAIT_WORDS * entries.len();
+        let here = from..from + room;
+        from += WAIT_WORDS * waits_in(entries, nodes);
+        here
+    };
+    schedules.iter().map(&mut row).collect()
+}
+
+/// How many turns of a run wait.
+fn waits_in(entries: &[[u16; 3]], nodes: u16) -> usize {
+    let mut arena = arena_with_keys(nodes, 0);
+    let mut history = vec![0; CALL_WORDS * entries.len()];
+    let mut waits = vec![0; WAIT_WORDS * entries.len()];
+    let schedule = entries.concat();
+    let run = plain::run(
+        &mut arena,
+        WORKERS,
+        nodes,
+        &schedule,
+        &mut history,
+        &mut waits,
+    );
+    run.map_or(0, |totals| totals.waits as usize)
 }
 
 pub fn inits(nodes: u16) -> Inits {

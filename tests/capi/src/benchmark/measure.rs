@@ -17,6 +17,8 @@ pub struct Words {
     pub arena: Vec<u16>,
     /// Room for the keys of a snapshot or for the histories of runs.
     pub out: Vec<u16>,
+    /// Room for the waits of runs.
+    pub waits: Vec<u16>,
     pub totals: [u16; 4],
 }
 
@@ -25,6 +27,7 @@ impl Words {
         Words {
             arena,
             out: vec![0; out_words],
+            waits: Vec::new(),
             totals: [0; 4],
         }
     }
@@ -33,6 +36,7 @@ impl Words {
     fn reset(&mut self, first: &Words) {
         self.arena.copy_from_slice(&first.arena);
         self.out.copy_from_slice(&first.out);
+        self.waits.copy_from_slice(&first.waits);
         self.totals = first.totals;
     }
 }
@@ -46,7 +50,7 @@ pub trait Workload {
     fn operations(&self) -> usize;
 
     /// The timed part. It hands on every reply.
-    fn pass<L: Library>(&self, library: &L, words: &mut Words, reply: impl FnMut(u32));
+    fn pass<L: Library>(&self, library: &L, words: &mut Words, reply: impl FnMut(u64));
 }
 
 /// Nanoseconds for an operation on each side, in the best round.
@@ -121,7 +125,7 @@ fn compare(work: &impl Workload) -> Result<(), Difference> {
     Ok(())
 }
 
-fn recorded(work: &impl Workload, library: &impl Library) -> (Vec<u32>, Words) {
+fn recorded(work: &impl Workload, library: &impl Library) -> (Vec<u64>, Words) {
     let mut words = work.words().clone();
     let mut replies = Vec::new();
     work.pass(library, &mut words, |reply| replies.push(reply));

@@ -9,34 +9,36 @@ pub struct PlainRust;
 
 impl Library for PlainRust {
     #[inline(never)]
-    fn init(&self, arena: &mut [u16], workers: u16, nodes: u16) -> u32 {
+    fn init(&self, arena: &mut [u16], workers: u16, nodes: u16) -> u64 {
         Model.init(arena, workers, nodes)
     }
 
     #[inline(never)]
-    fn start(&self, arena: &mut [u16], worker: u16, operation: u16, key: u16) -> u32 {
+    fn start(&self, arena: &mut [u16], worker: u16, operation: u16, key: u16) -> u64 {
         Model.start(arena, worker, operation, key)
     }
 
     #[inline(never)]
-    fn turn(&self, arena: &mut [u16], worker: u16) -> u32 {
+    fn turn(&self, arena: &mut [u16], worker: u16) -> u64 {
         Model.turn(arena, worker)
     }
 
     #[inline(never)]
-    fn snapshot(&self, arena: &[u16], keys: &mut [u16]) -> u32 {
+    fn snapshot(&self, arena: &[u16], keys: &mut [u16]) -> u64 {
         Model.snapshot(arena, keys)
     }
 
     /// Not the model's, which keeps the set at every time.
     #[inline(never)]
-    fn run(&self, run: Run) -> u32 {
-        match plain::run(run.arena, run.workers, run.nodes, run.schedule, run.history) {
+    fn run(&self, run: Run) -> u64 {
+        let (workers, nodes) = (run.workers, run.nodes);
+        let (schedule, history, waits) = (run.schedule, run.history, run.waits);
+        match plain::run(run.arena, workers, nodes, schedule, history, waits) {
             Ok(counts) => {
                 *run.totals = total_words(counts);
                 0
             }
-            Err(refusal) => u32::from(refusal),
+            Err(refusal) => u64::from(refusal),
         }
     }
 }

@@ -1,5 +1,7 @@
 //! The kinds of work that are timed.
 
+use std::ops::Range;
+
 use model::arena::{NODE_WORDS, WORKER_WORDS};
 
 use crate::benchmark::measure::{Words, Workload};
@@ -21,7 +23,7 @@ impl Workload for Entries {
         self.entries.len()
     }
 
-    fn pass<L: Library>(&self, library: &L, words: &mut Words, mut reply: impl FnMut(u32)) {
+    fn pass<L: Library>(&self, library: &L, words: &mut Words, mut reply: impl FnMut(u64)) {
         for &[worker, act, key] in &self.entries {
             reply(match act {
                 0 => library.turn(&mut words.arena, worker),
@@ -49,7 +51,7 @@ impl Workload for SameTurn {
         self.repeats
     }
 
-    fn pass<L: Library>(&self, library: &L, words: &mut Words, mut reply: impl FnMut(u32)) {
+    fn pass<L: Library>(&self, library: &L, words: &mut Words, mut reply: impl FnMut(u64)) {
         let worker = self.worker_at..self.worker_at + WORKER_WORDS;
         let node = self.node_at..self.node_at + NODE_WORDS;
         for _ in 0..self.repeats {
@@ -69,6 +71,8 @@ pub struct Runs {
     pub nodes: u16,
     pub schedules: Vec<Vec<u16>>,
     pub history_words: usize,
+    /// Where the waits of each run are lent.
+    pub waits_rows: Vec<Range<usize>>,
 }
 
 impl Workload for Runs {
@@ -80,16 +84,23 @@ impl Workload for Runs {
         self.schedules.len()
     }
 
-    fn pass<L: Library>(&self, library: &L, words: &mut Words, mut reply: impl FnMut(u32)) {
-        let Words { arena, out, totals } = words;
+    fn pass<L: Library>(&self, library: &L, words: &mut Words, mut reply: impl FnMut(u64)) {
+        let Words {
+            arena,
+            out,
+            waits,
+            totals,
+        } = words;
         let histories = out.chunks_exact_mut(self.history_words);
-        for (schedule, history) in self.schedules.iter().zip(histories) {
+        let rows = histories.zip(&self.waits_rows);
+        for (schedule, (history, waits_row)) in self.schedules.iter().zip(rows) {
             reply(library.run(Run {
                 arena,
                 workers: self.workers,
                 nodes: self.nodes,
                 schedule,
                 history,
+                waits: &mut waits[waits_row.clone()],
                 totals,
             }));
             for total in *totals {
@@ -115,7 +126,7 @@ impl Workload for Inits {
         self.repeats
     }
 
-    fn pass<L: Library>(&self, library: &L, words: &mut Words, mut reply: impl FnMut(u32)) {
+    fn pass<L: Library>(&self, library: &L, words: &mut Words, mut reply: impl FnMut(u64)) {
         for _ in 0..self.repeats {
             reply(library.init(&mut words.arena, self.workers, self.nodes));
         }
@@ -136,7 +147,7 @@ impl Workload for Snapshots {
         self.repeats
     }
 
-    fn pass<L: Library>(&self, library: &L, words: &mut Words, mut reply: impl FnMut(u32)) {
+    fn pass<L: Library>(&self, library: &L, words: &mut Words, mut reply: impl FnMut(u64)) {
         for _ in 0..self.repeats {
             reply(library.snapshot(&words.arena, &mut words.out));
         }

@@ -14,7 +14,15 @@ struct Desk {
     keys: Lent,
     schedule: Lent,
     history: Lent,
+    waits: Lent,
     totals: Lent,
+}
+
+/// What a run wrote besides the arena.
+pub struct Written<'a> {
+    pub history: &'a [u16],
+    pub waits: &'a [u16],
+    pub totals: &'a [u16],
 }
 
 pub struct Comparer<'a> {
@@ -26,8 +34,8 @@ pub struct Comparer<'a> {
 }
 
 pub struct Outcome {
-    pub tested_reply: u32,
-    pub model_reply: u32,
+    pub tested_reply: u64,
+    pub model_reply: u64,
     pub difference: Option<Difference>,
 }
 
@@ -62,6 +70,7 @@ impl<'a> Comparer<'a> {
             first = first
                 .or_else(|| difference("schedule", &tested.schedule, &model.schedule))
                 .or_else(|| difference("history", &tested.history, &model.history))
+                .or_else(|| difference("waits", &tested.waits, &model.waits))
                 .or_else(|| difference("totals", &tested.totals, &model.totals));
         }
         Outcome {
@@ -71,9 +80,13 @@ impl<'a> Comparer<'a> {
         }
     }
 
-    /// History and totals that the model wrote in the last run.
-    pub fn last_run(&self) -> (&[u16], &[u16]) {
-        (self.model.history.words(), self.model.totals.words())
+    /// What the model wrote in the last run.
+    pub fn last_run(&self) -> Written<'_> {
+        Written {
+            history: self.model.history.words(),
+            waits: self.model.waits.words(),
+            totals: self.model.totals.words(),
+        }
     }
 }
 
@@ -84,7 +97,7 @@ impl Desk {
         arena: &[u16],
         request: &Request,
         background: &[u16],
-    ) -> u32 {
+    ) -> u64 {
         self.arena.lend(arena);
         match *request {
             Request::Init { workers, nodes } => {
@@ -104,23 +117,26 @@ impl Desk {
                 workers,
                 nodes,
                 ref schedule,
-                room,
+                history_length,
+                waits_length,
             } => {
                 self.schedule.lend(schedule);
-                self.history.lend(&background[..room]);
+                self.history.lend(&background[..history_length]);
+                self.waits.lend(&background[..waits_length]);
                 self.totals.lend(&background[..4]);
                 self.run(library, workers, nodes)
             }
         }
     }
 
-    fn run(&mut self, library: &dyn Library, workers: u16, nodes: u16) -> u32 {
+    fn run(&mut self, library: &dyn Library, workers: u16, nodes: u16) -> u64 {
         library.run(Run {
             arena: self.arena.words_mut(),
             workers,
             nodes,
             schedule: self.schedule.words(),
             history: self.history.words_mut(),
+            waits: self.waits.words_mut(),
             totals: self.totals.words_mut().try_into().expect("four words"),
         })
     }

@@ -1,23 +1,24 @@
-//! What the comparison must have met: every reply and every move that document 01 knows.
+//! What the comparison must have met: every reply and every move that the documents know.
 
 use super::requests::EntryPoint;
+use crate::library::{self, Values};
 
 /// Two counts: on arenas reached from a fresh one, and on all others.
 type Counts = [u64; 2];
 
 /// The refusals of each entry point, in document 01's order.
-const REFUSALS: [(EntryPoint, &str, &[u32]); 5] = [
+const REFUSALS: [(EntryPoint, &str, &[u64]); 5] = [
     (EntryPoint::Init, "init", &[10, 1]),
     (EntryPoint::Start, "start", &[1, 2, 3, 6, 4, 5]),
     (EntryPoint::Turn, "turn", &[1, 2, 3, 6, 7]),
     (EntryPoint::Snapshot, "snapshot", &[1, 2, 7, 8]),
     (EntryPoint::Run, "run", &[10, 9, 1, 8]),
 ];
-const ACCEPTED: u32 = 0;
+const ACCEPTED: u64 = 0;
 
 /// What no arena reached from a fresh one may meet. Document 01 says it of turns; for start and
 /// snapshot it follows, since stages stay in their range and keys rise along every chain.
-const NEVER_FROM_FRESH: [(EntryPoint, u32); 4] = [
+const NEVER_FROM_FRESH: [(EntryPoint, u64); 4] = [
     (EntryPoint::Turn, 6),
     (EntryPoint::Turn, 7),
     (EntryPoint::Start, 6),
@@ -76,33 +77,42 @@ pub struct Coverage {
     turns: [[Counts; 30]; 26],
     /// Replies that cannot even be counted above.
     unknown: u64,
+    /// Waits on arenas reached from a fresh one that name no other busy worker.
+    stray: u64,
 }
 
 impl Coverage {
     /// Notes the model's reply; `stage` is where the worker of a turn stood.
-    pub fn note(&mut self, entry_point: EntryPoint, reply: u32, stage: u16, reached: bool) {
+    pub fn note(&mut self, entry_point: EntryPoint, reply: u64, stage: u16, reached: bool) {
         let column = usize::from(!reached);
-        let refusal = (reply % 256) as usize;
-        match self.replies[entry_point as usize].get_mut(refusal) {
+        // A refusal carries no values, so it is the whole reply.
+        let values = Values::read(reply);
+        let refusal = if values.is_some() { ACCEPTED } else { reply };
+        match self.replies[entry_point as usize].get_mut(refusal as usize) {
             Some(counts) => counts[column] += 1,
             None => self.unknown += 1,
         }
-        if entry_point == EntryPoint::Turn && refusal == 0 {
+        if let (EntryPoint::Turn, Some(values)) = (entry_point, values) {
             let counts = self.turns.get_mut(stage as usize);
-            match counts.and_then(|reports| reports.get_mut(report_place(reply / 256))) {
+            match counts.and_then(|reports| reports.get_mut(report_place(values))) {
                 Some(counts) => counts[column] += 1,
                 None => self.unknown += 1,
             }
         }
     }
 
+    /// Notes a wait on an arena reached from a fresh one.
+    pub fn note_wait(&mut self, for_other_busy: bool) {
+        self.stray += u64::from(!for_other_busy);
+    }
+
     pub fn merge(&mut self, other: &Coverage) {
         let mine = self.replies.iter_mut().flatten().flatten();
         let mine = mine.chain(self.turns.iter_mut().flatten().flatten());
-        let mine = mine.chain([&mut self.unknown]);
+        let mine = mine.chain([&mut self.unknown, &mut self.stray]);
         let theirs = other.replies.iter().flatten().flatten();
         let theirs = theirs.chain(other.turns.iter().flatten().flatten());
-        let theirs = theirs.chain([&other.unknown]);
+        let theirs = theirs.chain([&other.unknown, &other.stray]);
         for (sum, more) in mine.zip(theirs) {
             *sum += more;
         }
@@ -115,9 +125,14 @@ impl Coverage {
         self.print_replies(&mut good);
         heading("turns, by stage and report");
         self.print_turns(&mut good);
-        good.push(self.unknown == 0);
-        if self.unknown != 0 {
-            println!("  {} replies of no known form  NOT ALLOWED", self.unknown);
+        for (count, what) in [
+            (self.unknown, "replies of no known form"),
+            (self.stray, "waits from fresh for no other busy worker"),
+        ] {
+            good.push(count == 0);
+            if count != 0 {
+                println!("  {count} {what}  NOT ALLOWED");
+            }
         }
         good
     }
@@ -187,14 +202,14 @@ fn heading(title: &str) {
     println!("{title:37} {:>10} {:>10}", "from fresh", "others");
 }
 
-/// Where a report is counted: past the end for none of document 01's.
-fn report_place(values: u32) -> usize {
-    let value = (values / 256) as usize;
-    match (values % 256, value) {
-        (0, 0) => IDLE,
-        (1, 1..=25) => value,
-        (2, 0) => WAITS,
-        (3, 1..=3) => WAITS + value,
+/// Where a report is counted: past the end for none of the documents'.
+fn report_place(values: Values) -> usize {
+    let first = values.first as usize;
+    match (values.report, first, values.second) {
+        (library::IDLE, 0, 0) => IDLE,
+        (library::MOVED, 1..=25, 0) => first,
+        (library::WAITS, _, _) => WAITS,
+        (library::FINISHED, 1..=3, 0) => WAITS + first,
         _ => usize::MAX,
     }
 }

@@ -7,6 +7,7 @@ use model::rng::Rng;
 
 use super::arenas::Arenas;
 use super::schedules;
+use crate::library::{CALL_WORDS, WAIT_WORDS};
 
 #[derive(Clone, Copy, Debug, PartialEq, Eq)]
 pub enum EntryPoint {
@@ -34,12 +35,13 @@ pub enum Request {
     Snapshot {
         room: usize,
     },
-    /// With so many words for the history.
+    /// With so many words for the history and for the waits.
     Run {
         workers: u16,
         nodes: u16,
         schedule: Vec<u16>,
-        room: usize,
+        history_length: usize,
+        waits_length: usize,
     },
 }
 
@@ -70,13 +72,13 @@ impl fmt::Display for Request {
                 workers,
                 nodes,
                 schedule,
-                room,
+                history_length,
+                waits_length,
             } => {
                 let length = schedule.len();
-                write!(
-                    out,
-                    "run workers {workers} nodes {nodes}, {room} words of history, "
-                )?;
+                write!(out, "run workers {workers} nodes {nodes}, ")?;
+                write!(out, "{history_length} words of history, ")?;
+                write!(out, "{waits_length} words of waits, ")?;
                 write!(out, "{length} words of schedule {schedule:?}")
             }
         }
@@ -165,13 +167,16 @@ pub fn init(rng: &mut Rng) -> (usize, Request) {
 pub fn run(rng: &mut Rng) -> (usize, Request) {
     let (workers, nodes) = counts(rng);
     let schedule = schedules::schedule(rng, workers);
-    let room = schedules::history_length(rng, &schedule);
+    let needed = schedules::needed(&schedule);
+    let history_length = schedules::row_length(rng, needed.calls, CALL_WORDS);
+    let waits_length = schedules::row_length(rng, needed.waits, WAIT_WORDS);
     let length = arena_length(rng, workers, nodes);
     let request = Request::Run {
         workers,
         nodes,
         schedule,
-        room,
+        history_length,
+        waits_length,
     };
     (length, request)
 }

@@ -1,10 +1,8 @@
-//! Schedules for runs, and room for their histories.
+//! Schedules for runs, and room for their calls and waits.
 
 use model::arena::*;
 use model::rng::Rng;
-use model::run::MAX_SCHEDULE_WORDS;
-
-use crate::library::CALL_WORDS;
+use model::run::{Room, MAX_SCHEDULE_WORDS};
 
 /// Words of an entry: worker, act, key.
 const ENTRY_WORDS: usize = 3;
@@ -71,16 +69,24 @@ impl Style {
     }
 }
 
-/// About as many words as the history needs: too few, exact, more, or not whole records.
-pub fn history_length(rng: &mut Rng, schedule: &[u16]) -> usize {
-    let is_start = |entry: &&[u16]| (ADD..=CONTAINS).contains(&entry[1]);
-    let starts = schedule.chunks_exact(ENTRY_WORDS).filter(is_start).count();
-    let needed = CALL_WORDS * starts;
-    match rng.range(0, 9) {
-        0..=3 => needed,
-        4..=5 => needed + CALL_WORDS * rng.index(4),
-        6..=7 => needed + rng.index(3 * CALL_WORDS),
-        8 => needed.saturating_sub(1),
+/// The room that a schedule needs: a record for each start, and one for each turn.
+pub fn needed(schedule: &[u16]) -> Room {
+    let acts = || schedule.chunks_exact(ENTRY_WORDS).map(|entry| entry[1]);
+    Room {
+        calls: acts().filter(|act| (ADD..=CONTAINS).contains(act)).count(),
+        waits: acts().filter(|&act| act == 0).count(),
+    }
+}
+
+/// About as many words as these records take: too few, exact, more, or not whole records. There are
+/// two rows, and the fewest runs should be refused for one, so too few words are rare.
+pub fn row_length(rng: &mut Rng, records: usize, record_words: usize) -> usize {
+    let needed = record_words * records;
+    match rng.range(0, 19) {
+        0..=8 => needed,
+        9..=12 => needed + record_words * rng.index(4),
+        13..=17 => needed + rng.index(3 * record_words),
+        18 => needed.saturating_sub(1),
         _ => rng.index(needed + 1),
     }
 }

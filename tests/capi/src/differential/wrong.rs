@@ -2,6 +2,7 @@
 //! it would say nothing about the proved library either.
 
 use super::wrong_others::*;
+use super::wrong_runs::*;
 use super::wrong_turns::*;
 use super::Comparison;
 use crate::library::{Library, Model, Run};
@@ -12,11 +13,11 @@ const COUNT: u64 = 50_000;
 /// The model with some entry points replaced.
 struct Wrong {
     name: &'static str,
-    init: fn(&mut [u16], u16, u16) -> u32,
-    start: fn(&mut [u16], u16, u16, u16) -> u32,
-    turn: fn(&mut [u16], u16) -> u32,
-    snapshot: fn(&[u16], &mut [u16]) -> u32,
-    run: fn(Run) -> u32,
+    init: fn(&mut [u16], u16, u16) -> u64,
+    start: fn(&mut [u16], u16, u16, u16) -> u64,
+    turn: fn(&mut [u16], u16) -> u64,
+    snapshot: fn(&[u16], &mut [u16]) -> u64,
+    run: fn(Run) -> u64,
 }
 
 const RIGHT: Wrong = Wrong {
@@ -28,7 +29,7 @@ const RIGHT: Wrong = Wrong {
     run: |run| Model.run(run),
 };
 
-const fn wrong_init(name: &'static str, init: fn(&mut [u16], u16, u16) -> u32) -> Wrong {
+const fn wrong_init(name: &'static str, init: fn(&mut [u16], u16, u16) -> u64) -> Wrong {
     Wrong {
         name,
         init,
@@ -36,7 +37,7 @@ const fn wrong_init(name: &'static str, init: fn(&mut [u16], u16, u16) -> u32) -
     }
 }
 
-const fn wrong_start(name: &'static str, start: fn(&mut [u16], u16, u16, u16) -> u32) -> Wrong {
+const fn wrong_start(name: &'static str, start: fn(&mut [u16], u16, u16, u16) -> u64) -> Wrong {
     Wrong {
         name,
         start,
@@ -44,7 +45,7 @@ const fn wrong_start(name: &'static str, start: fn(&mut [u16], u16, u16, u16) ->
     }
 }
 
-const fn wrong_turn(name: &'static str, turn: fn(&mut [u16], u16) -> u32) -> Wrong {
+const fn wrong_turn(name: &'static str, turn: fn(&mut [u16], u16) -> u64) -> Wrong {
     Wrong {
         name,
         turn,
@@ -52,7 +53,7 @@ const fn wrong_turn(name: &'static str, turn: fn(&mut [u16], u16) -> u32) -> Wro
     }
 }
 
-const fn wrong_snapshot(name: &'static str, snapshot: fn(&[u16], &mut [u16]) -> u32) -> Wrong {
+const fn wrong_snapshot(name: &'static str, snapshot: fn(&[u16], &mut [u16]) -> u64) -> Wrong {
     Wrong {
         name,
         snapshot,
@@ -60,11 +61,11 @@ const fn wrong_snapshot(name: &'static str, snapshot: fn(&[u16], &mut [u16]) -> 
     }
 }
 
-const fn wrong_run(name: &'static str, run: fn(Run) -> u32) -> Wrong {
+const fn wrong_run(name: &'static str, run: fn(Run) -> u64) -> Wrong {
     Wrong { name, run, ..RIGHT }
 }
 
-const WRONG: [Wrong; 22] = [
+const WRONG: [Wrong; 38] = [
     wrong_init("init writes a word past the total", init_past_total),
     wrong_start("start writes a word too many", start_too_long),
     wrong_start("start: bad call before busy", start_bad_call_first),
@@ -82,31 +83,47 @@ const WRONG: [Wrong; 22] = [
     wrong_turn("turn follows 1,000 links only", turn_few_links),
     wrong_turn("turn at 18 writes no link", turn_no_unlink),
     wrong_turn("turn clears the eighth word", turn_eighth_word),
+    wrong_turn("turn waits for the other node", turn_other_node),
+    wrong_turn("turn waits for the owner word", turn_owner_word),
+    wrong_turn("turn waits for the worker itself", turn_own_number),
+    wrong_turn("turn names no worker", turn_no_second),
+    wrong_turn("turn names a worker of the arena", turn_known_worker),
     wrong_snapshot("snapshot skips the last key", snapshot_skips),
     wrong_snapshot("snapshot writes without room", snapshot_no_room),
     wrong_snapshot("snapshot looks at Tail's key", snapshot_tail_key),
     wrong_run("run swaps waits and calls", run_swaps_totals),
     wrong_run("run dates a no by its last reading", run_late_no),
+    wrong_run("run names the call after a wait's", run_next_call),
+    wrong_run("run names the call in the way", run_call_in_the_way),
+    wrong_run("run names the worker's first call", run_first_call),
+    wrong_run("run dates a wait by its last entry", run_early_wait),
+    wrong_run("run names the waiting worker", run_waiting_worker),
+    wrong_run("run writes the waits call by call", run_waits_by_call),
+    wrong_run("run counts a wait and does not write it", run_lost_wait),
+    wrong_run("run writes a word past the waits", run_past_waits),
+    wrong_run("run: no room before short arena", run_no_room_first),
+    wrong_run("run takes any number of waits", run_short_waits),
+    wrong_run("run needs no record for refused turns", run_refused_turns),
 ];
 
 impl Library for Wrong {
-    fn init(&self, arena: &mut [u16], workers: u16, nodes: u16) -> u32 {
+    fn init(&self, arena: &mut [u16], workers: u16, nodes: u16) -> u64 {
         (self.init)(arena, workers, nodes)
     }
 
-    fn start(&self, arena: &mut [u16], worker: u16, operation: u16, key: u16) -> u32 {
+    fn start(&self, arena: &mut [u16], worker: u16, operation: u16, key: u16) -> u64 {
         (self.start)(arena, worker, operation, key)
     }
 
-    fn turn(&self, arena: &mut [u16], worker: u16) -> u32 {
+    fn turn(&self, arena: &mut [u16], worker: u16) -> u64 {
         (self.turn)(arena, worker)
     }
 
-    fn snapshot(&self, arena: &[u16], keys: &mut [u16]) -> u32 {
+    fn snapshot(&self, arena: &[u16], keys: &mut [u16]) -> u64 {
         (self.snapshot)(arena, keys)
     }
 
-    fn run(&self, run: Run) -> u32 {
+    fn run(&self, run: Run) -> u64 {
         (self.run)(run)
     }
 }

@@ -2,13 +2,27 @@
 
 use model::arena::*;
 
-use crate::library::{Library, Model};
+use crate::library::{Library, Model, Values, IDLE, MOVED, WAITS};
 
-const IDLE: u32 = 0;
-const WAITS: u32 = 256 * 2;
+const IDLE_REPLY: u64 = reply(IDLE, 0, 0);
 
-const fn moved(stage: u16) -> u32 {
-    256 * (1 + 256 * stage as u32)
+const fn reply(report: u8, first: u16, second: u16) -> u64 {
+    Values {
+        report,
+        first,
+        second,
+    }
+    .number()
+}
+
+const fn moved(stage: u16) -> u64 {
+    reply(MOVED, stage, 0)
+}
+
+/// The node and the worker of a turn that waits.
+fn waits(reply: u64) -> Option<(u16, u16)> {
+    let values = Values::read(reply).filter(|values| values.report == WAITS)?;
+    Some((values.first, values.second))
 }
 
 /// The shape, and where the worker's record is; None if a turn looks at no record.
@@ -22,8 +36,8 @@ fn record_at(arena: &[u16], worker: u16) -> Option<(Shape, usize)> {
 fn then(
     arena: &mut [u16],
     worker: u16,
-    fault: impl Fn(&[u16], &mut [u16], Shape, usize, u32) -> u32,
-) -> u32 {
+    fault: impl Fn(&[u16], &mut [u16], Shape, usize, u64) -> u64,
+) -> u64 {
     let before = arena.to_vec();
     let reply = Model.turn(arena, worker);
     match record_at(&before, worker) {
@@ -32,20 +46,20 @@ fn then(
     }
 }
 
-pub fn turn_header_first(arena: &mut [u16], worker: u16) -> u32 {
+pub fn turn_header_first(arena: &mut [u16], worker: u16) -> u64 {
     let reply = Model.turn(arena, worker);
     let fits = |arena: &[u16]| {
         let shape = Shape::new(arena[1], arena[2]);
         shape.is_some_and(|shape| arena[..HEADER_WORDS] == shape.header())
     };
-    if reply == u32::from(SHORT_ARENA) && arena.len() >= HEADER_WORDS && !fits(arena) {
-        u32::from(ODD_HEADER)
+    if reply == u64::from(SHORT_ARENA) && arena.len() >= HEADER_WORDS && !fits(arena) {
+        u64::from(ODD_HEADER)
     } else {
         reply
     }
 }
 
-pub fn turn_seven_words(arena: &mut [u16], worker: u16) -> u32 {
+pub fn turn_seven_words(arena: &mut [u16], worker: u16) -> u64 {
     let Some(&word) = arena.get(7) else {
         return Model.turn(arena, worker);
     };
@@ -55,14 +69,14 @@ pub fn turn_seven_words(arena: &mut [u16], worker: u16) -> u32 {
     reply
 }
 
-pub fn turn_one_more_worker(arena: &mut [u16], worker: u16) -> u32 {
+pub fn turn_one_more_worker(arena: &mut [u16], worker: u16) -> u64 {
     match check_header(arena) {
-        Ok(shape) if shape.workers == worker => IDLE,
+        Ok(shape) if shape.workers == worker => IDLE_REPLY,
         _ => Model.turn(arena, worker),
     }
 }
 
-pub fn turn_chain_first(arena: &mut [u16], worker: u16) -> u32 {
+pub fn turn_chain_first(arena: &mut [u16], worker: u16) -> u64 {
     then(arena, worker, |before, _, shape, at, reply| {
         let node = match before[at + STAGE] {
             2 => before[at + PRED],
@@ -71,16 +85,16 @@ pub fn turn_chain_first(arena: &mut [u16], worker: u16) -> u32 {
         };
         let broken = node < shape.nodes && before[shape.node_at(node) + NEXT] >= shape.nodes;
         if broken {
-            u32::from(BROKEN_CHAIN)
+            u64::from(BROKEN_CHAIN)
         } else {
             reply
         }
     })
 }
 
-pub fn turn_own_node(arena: &mut [u16], worker: u16) -> u32 {
+pub fn turn_own_node(arena: &mut [u16], worker: u16) -> u64 {
     then(arena, worker, |before, after, shape, at, reply| {
-        let at_seven = before[at + STAGE] == 7 && reply == WAITS;
+        let at_seven = before[at + STAGE] == 7 && waits(reply).is_some();
         if at_seven && before[shape.node_at(before[at + CURR]) + OWNER] == worker + 1 {
             after[at + STAGE] = 8;
             return moved(8);
@@ -89,7 +103,7 @@ pub fn turn_own_node(arena: &mut [u16], worker: u16) -> u32 {
     })
 }
 
-pub fn turn_no_mark(arena: &mut [u16], worker: u16) -> u32 {
+pub fn turn_no_mark(arena: &mut [u16], worker: u16) -> u64 {
     then(arena, worker, |before, after, _, at, reply| {
         if before[at + STAGE] == 8 && reply == moved(11) {
             after[at + STAGE] = 9;
@@ -99,7 +113,7 @@ pub fn turn_no_mark(arena: &mut [u16], worker: u16) -> u32 {
     })
 }
 
-pub fn turn_mark_one(arena: &mut [u16], worker: u16) -> u32 {
+pub fn turn_mark_one(arena: &mut [u16], worker: u16) -> u64 {
     then(arena, worker, |before, after, shape, at, reply| {
         let node = before[at + CURR];
         if before[at + STAGE] == 9 && reply == moved(11) {
@@ -111,17 +125,17 @@ pub fn turn_mark_one(arena: &mut [u16], worker: u16) -> u32 {
     })
 }
 
-pub fn turn_pred_at_14(arena: &mut [u16], worker: u16) -> u32 {
+pub fn turn_pred_at_14(arena: &mut [u16], worker: u16) -> u64 {
     then(arena, worker, |before, after, shape, at, reply| {
         if before[at + STAGE] == 14 && before[at + PRED] >= shape.nodes {
             after.copy_from_slice(before);
-            return u32::from(BROKEN_RECORD);
+            return u64::from(BROKEN_RECORD);
         }
         reply
     })
 }
 
-pub fn turn_no_unlink(arena: &mut [u16], worker: u16) -> u32 {
+pub fn turn_no_unlink(arena: &mut [u16], worker: u16) -> u64 {
     then(arena, worker, |before, after, shape, at, reply| {
         if before[at + STAGE] == 18 {
             let nodes = shape.node_at(0)..shape.total();
@@ -131,12 +145,57 @@ pub fn turn_no_unlink(arena: &mut [u16], worker: u16) -> u32 {
     })
 }
 
-pub fn turn_eighth_word(arena: &mut [u16], worker: u16) -> u32 {
+pub fn turn_eighth_word(arena: &mut [u16], worker: u16) -> u64 {
     then(arena, worker, |before, after, _, at, reply| {
         if after[at + STAGE] != before[at + STAGE] {
             after[at + 7] = 0;
         }
         reply
+    })
+}
+
+/// A turn that tells its waits in a way of its own: from its record, the shape, and the node and
+/// the worker that are right.
+fn told_by(
+    arena: &mut [u16],
+    worker: u16,
+    tell: impl Fn(&[u16], Shape, u16, u16) -> (u16, u16),
+) -> u64 {
+    then(arena, worker, |before, _, shape, at, right| {
+        let Some((node, in_the_way)) = waits(right) else {
+            return right;
+        };
+        let record = &before[at..at + WORKER_WORDS];
+        let (node, in_the_way) = tell(record, shape, node, in_the_way);
+        reply(WAITS, node, in_the_way)
+    })
+}
+
+pub fn turn_other_node(arena: &mut [u16], worker: u16) -> u64 {
+    told_by(arena, worker, |record, _, _, in_the_way| {
+        let other = if record[STAGE] == 6 { CURR } else { PRED };
+        (record[other], in_the_way)
+    })
+}
+
+pub fn turn_owner_word(arena: &mut [u16], worker: u16) -> u64 {
+    told_by(arena, worker, |_, _, node, in_the_way| {
+        (node, in_the_way + 1)
+    })
+}
+
+pub fn turn_own_number(arena: &mut [u16], worker: u16) -> u64 {
+    told_by(arena, worker, |_, _, node, _| (node, worker))
+}
+
+pub fn turn_no_second(arena: &mut [u16], worker: u16) -> u64 {
+    told_by(arena, worker, |_, _, node, _| (node, 0))
+}
+
+/// Right on every arena that is reached from a fresh one.
+pub fn turn_known_worker(arena: &mut [u16], worker: u16) -> u64 {
+    told_by(arena, worker, |_, shape, node, in_the_way| {
+        (node, in_the_way.min(shape.workers - 1))
     })
 }
 
@@ -167,7 +226,7 @@ fn search_by(
     arena: &mut [u16],
     worker: u16,
     search: impl Fn(&[u16], Shape) -> Option<usize>,
-) -> u32 {
+) -> u64 {
     then(arena, worker, |before, after, shape, at, reply| {
         if before[at + STAGE] != 14 || (reply != moved(15) && reply != moved(19)) {
             return reply;
@@ -188,7 +247,7 @@ fn all_roots(arena: &[u16], shape: Shape) -> Vec<u16> {
     [vec![HEAD, TAIL], worker_roots(arena, shape)].concat()
 }
 
-pub fn turn_highest(arena: &mut [u16], worker: u16) -> u32 {
+pub fn turn_highest(arena: &mut [u16], worker: u16) -> u64 {
     search_by(arena, worker, |arena, shape| {
         let taken = reached(arena, shape, &all_roots(arena, shape), MAX_NODES as usize);
         taken.iter().rposition(|&taken| !taken)
@@ -196,7 +255,7 @@ pub fn turn_highest(arena: &mut [u16], worker: u16) -> u32 {
 }
 
 /// Document 01's trap: another removed node may still lead to it.
-pub fn turn_nobody_there(arena: &mut [u16], worker: u16) -> u32 {
+pub fn turn_nobody_there(arena: &mut [u16], worker: u16) -> u64 {
     search_by(arena, worker, |arena, shape| {
         let on_chain = reached(arena, shape, &[HEAD, TAIL], MAX_NODES as usize);
         let roots = worker_roots(arena, shape);
@@ -206,7 +265,7 @@ pub fn turn_nobody_there(arena: &mut [u16], worker: u16) -> u32 {
     })
 }
 
-pub fn turn_without_tail(arena: &mut [u16], worker: u16) -> u32 {
+pub fn turn_without_tail(arena: &mut [u16], worker: u16) -> u64 {
     search_by(arena, worker, |arena, shape| {
         let roots = [vec![HEAD], worker_roots(arena, shape)].concat();
         let mut taken = reached(arena, shape, &roots, MAX_NODES as usize);
@@ -215,7 +274,7 @@ pub fn turn_without_tail(arena: &mut [u16], worker: u16) -> u32 {
     })
 }
 
-pub fn turn_few_links(arena: &mut [u16], worker: u16) -> u32 {
+pub fn turn_few_links(arena: &mut [u16], worker: u16) -> u64 {
     search_by(arena, worker, |arena, shape| {
         let taken = reached(arena, shape, &all_roots(arena, shape), 1_000);
         taken.iter().position(|&taken| !taken)
