@@ -17,7 +17,7 @@ use Rattle.worker.specs.declared.report.Report.{Report}
 use Rattle.worker.specs.declared.report.Report.the-variants.{Idle, Waits}
 use Rattle.worker.specs.declared.report.Step.{Step}
 use Rattle.worker.specs.declared.report.Effect.{Effect}
-use Rattle.worker.specs.declared.report.Effect.the-variants.{SetOwner}
+use Rattle.worker.specs.declared.report.Effect.the-variants.{Nothing, SetOwner}
 use Rattle.worker.proofs.Tables.{AllFrom, end, _then_, row-at}
 use Rattle.arena.specs.Layout.{nodeOwner}
 use Rattle.lazy.specs.Turn.{seenOf}
@@ -76,11 +76,12 @@ module _ {nodes : ℕ} {s : State} (inv : Inv nodes s) (me : ℕ) where
     pub owned : s .owner node ≡ suc owner
     pub above : (n : ℕ) → Locks w n → s .key n < s .key node
 
-  -- it is what the report of a turn that waits says
+  -- it is what the report of a turn that waits says; and such a turn has no effect
   pub record Locking (step : Step) : Type 0 where
     pub locks : (node : ℕ) → Lock step node
     pub waits : isWaits (turnReported (step .report)) ≡ true →
         Wants (getD (reportValues (step .report)) 1 0) (getD (reportValues (step .report)) 2 0)
+    pub still : isWaits (turnReported (step .report)) ≡ true → step .effect ≡ Nothing
 
   at-stage : {n : ℕ} → w .stage ≡ n → {node : ℕ} → Locks w node → Has n (w .pred) (w .curr) node
   at-stage at {node} h = subst (λ k. Has k (w .pred) (w .curr) node) at h
@@ -89,7 +90,7 @@ module _ {nodes : ℕ} {s : State} (inv : Inv nodes s) (me : ℕ) where
   pub without : {n : ℕ} → hasPred n ≡ false → hasCurr n ≡ false → (new : Worker) (report : Report) →
       isWaits (turnReported report) ≡ false → w .stage ≡ n → Locking (reports new report)
   without p c new report moves at =
-      record { locks = λ node. stays refl (λ h. absurd (has-none p c (at-stage at h))); waits = moving moves }
+      record { locks = λ node. stays refl (λ h. absurd (has-none p c (at-stage at h))); waits = moving moves; still = moving moves }
 
   -- a turn that leaves pred and curr as they are, and has the locks of both then
   both : (new : Worker) (report : Report) (e : Effect) → ((node : ℕ) → (ownerAfter e node ≡ 0) ⊎ (ownerAfter e node ≡ s .owner node)) →
@@ -97,7 +98,11 @@ module _ {nodes : ℕ} {s : State} (inv : Inv nodes s) (me : ℕ) where
       hasPred (new .stage) && hasCurr (new .stage) ≡ true → Locking (record { worker = new; report = report; effect = e })
   both new report e owners moves p c has =
       let (first, second) = and-eq-true-iff _ _ .0 has in
-      record { locks = λ node. ⊎-elim unowned (λ same. stays same (kept first second)) (owners node); waits = moving moves }
+      record {
+        locks = λ node. ⊎-elim unowned (λ same. stays same (kept first second)) (owners node);
+        waits = moving moves;
+        still = moving moves;
+      }
     where
       kept : {node : ℕ} → hasPred (new .stage) ≡ true → hasCurr (new .stage) ≡ true → Locks w node → Locks new node
       kept first second (as-pred h q) = as-pred first (q ∙ sym p)
@@ -118,6 +123,7 @@ module _ {nodes : ℕ} {s : State} (inv : Inv nodes s) (me : ℕ) where
             λ n. ⊎-elim (λ e. rw e this) (λ d. stays (off-node n node owner (s .owner n) d) (others n d))
             (same? n node);
         waits = moving moves;
+        still = moving moves;
       }
 
   -- a turn that waits for a node with an owner
@@ -127,6 +133,7 @@ module _ {nodes : ℕ} {s : State} (inv : Inv nodes s) (me : ℕ) where
       record {
         locks = λ n. stays refl (λ h. h);
         waits = λ waiting. record { busy = busy; owned = omega (arith, eqb-false (s .owner node) 0 some); above = above };
+        still = λ waiting. refl;
       }
 
   -- 6 and 7: the lock is taken, or the turn waits

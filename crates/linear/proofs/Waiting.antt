@@ -13,6 +13,8 @@ use lib.Dec.{eqb}
 use borrow.Author.Tests.{eqb-true, eq-eqb, ne-eqb}
 use Rattle.worker.specs.declared.Worker.{Worker}
 use Rattle.worker.specs.declared.report.Report.the-variants as report
+use Rattle.worker.specs.declared.report.Effect.the-variants.{Nothing}
+use Rattle.arena.specs.Layout.{nodeOwner}
 use Rattle.arena.specs.Records.{workerAt}
 use Rattle.linear.specs.Lists.{filter}
 use Rattle.linear.specs.Entries.{Entry, Event, callStarted, turnReported, entryRefused, isWaits, isFinished, eventValues}
@@ -20,7 +22,7 @@ use Rattle.linear.specs.History.{arenaAt, startsCallOf, callNumber, fini
 use Rattle.linear.specs.Linearizable.{Blocked, Waiting}
 use Rattle.linear.proofs.ListLaws.{from-map, from-filter, from-times, first-past}
 use Rattle.linear.proofs.Times.{passing, passing-place, latest-is}
-use Rattle.linear.proofs.State.{State, stepped}
+use Rattle.linear.proofs.State.{State, wordAfter, stepped}
 use Rattle.linear.proofs.Bridge.{Entered, refuses, starts as starts-call, turns}
 use Rattle.linear.proofs.Timeline.{Schedule, begun-at, arena, state, entry, outcome, outcome-is, starts-at, finishing, call-at, last, always, sound, own-worker, idle-past, entered-at, step-at}
 use Rattle.linear.proofs.Locks.{Locks, Wants, turn-locks, has-busy}
@@ -71,9 +73,10 @@ module _ (r : Schedule) where
     abbrev blocker : ℕ
     blocker = getD (eventValues (outcome r now)) 2 0
 
-    -- it was accepted, it wants what it says, and the other workers' records stay
+    -- it was accepted, it wants what it says, and it has no effect
     record Waited : Type 0 where
       wants : Wants (always r now) v node blocker
+      still : step-at r now v .effect ≡ Nothing
       next : state r (suc now) ≡ stepped (state r now) v (step-at r now v)
 
     waited : Waited
@@ -90,6 +93,7 @@ module _ (r : Schedule) where
               wants =
                   subst (λ e. Wants (always r now) v (getD (eventValues e) 1 0) (getD (eventValues e) 2 0)) (sym is)
                   (turn-locks (always r now) v (r .workers) .waits (sym (ap isWaits is) ∙ waiting));
+              still = turn-locks (always r now) v (r .workers) .still (sym (ap isWaits is) ∙ waiting);
               next = next;
             }
 
@@ -103,6 +107,11 @@ module _ (r : Schedule) where
         let owner = owners-at r now node (omega arith) in
         let same : owner .worker ≡ blocker = omega (arith, owner .named) in
         subst (λ w. Locks (state r now .worker w) node) same (owner .has)
+
+    still-owns : state r (suc now) .owner node ≡ suc blocker
+    still-owns =
+        ap (λ (s : State). s .owner node) (waited .next)
+        ∙ ap (λ e. wordAfter e node nodeOwner (state r now .owner node)) (waited .still) ∙ waited .wants .owned
 
     another : blocker ≢ v
     another same = omega (arith, waited .wants .above node (subst (λ w. Locks (state r now .worker w) node) same has-lock))
@@ -150,6 +159,7 @@ module _ (r : Schedule) where
           own = at .own;
           started = omega (arith, at .is-open .begun);
           unfinished = unfinished;
+          owns = still-owns;
           known = omega (arith, there, sound r (suc now) .workers-are);
           another = another;
           busy = still-busy;

@@ -1,5 +1,5 @@
 -- Demand 3, one field for each of its sentences.
-use Prim.Native.Nat.{ℕ, _≤_, _<_}
+use Prim.Native.Nat.{ℕ, suc, _≤_, _<_}
 use mathlib.Core.Path.{_≡_}
 use mathlib.Core.Logic.{_≢_, _↔_, _⊎_}
 use mathlib.Core.List.{List, [], List·Memᴰ, map}
@@ -13,7 +13,7 @@ use Rattle.worker.specs.declared.report.Report.the-variants.{Finished}
 use Rattle.arena.specs.Layout.{workersOf}
 use Rattle.arena.specs.Records.{workerAt}
 use Rattle.linear.specs.Lists.{member}
-use Rattle.linear.specs.Sets.{ChainWhole, setOf, InSet}
+use Rattle.linear.specs.Sets.{nodeIn, ChainWhole, setOf, InSet}
 use Rattle.linear.specs.Entries.{Entry, isTurn, turnReported, entryRefused}
 use Rattle.linear.specs.History.{Call, Wait, entryAt, arenaAt, eventAt, calls, waits}
 use Rattle.linear.specs.Order.{inOrder}
@@ -75,7 +75,8 @@ module _ (initial : List ℕ) (entries : List Entry) where
     pub own : call .worker ≡ entryAt entries (wait .time) .worker
     pub started : call .start < wait .time
     pub unfinished : (call .finish ≡ 0) ⊎ (wait .time < call .finish)
-    -- the worker in the way is one of the W workers, another one, and busy then
+    -- the worker in the way owns the node wanted, and is one of the W workers, another one, and busy then
+    pub owns : nodeIn (arenaAt initial entries (wait .time)) (wait .node) .owner ≡ suc (wait .worker)
     pub known : wait .worker < workersOf (arenaAt initial entries (wait .time))
     pub another : wait .worker ≢ entryAt entries (wait .time) .worker
     pub busy : workerAt (arenaAt initial entries (wait .time)) (wait .worker) .stage ≢ idleStage
