@@ -10,15 +10,15 @@ use lib.Seq.{sets, sets-eq}
 use borrow.Author.Tests.{le-ltb, not-false, ltb-false}
 use Rattle.worker.specs.Worker.{idleWorker}
 use Rattle.worker.specs.Node.{unusedNode}
-use Rattle.arena.specs.Layout.{headerWidth, workerFrom, nodeWidth, layoutNumber, headerWords, total, goodCounts}
-use Rattle.arena.specs.Records.{workerWords, nodeWords}
-use Rattle.arena.specs.Replies.{accepted, replied}
-use Rattle.arena.specs.Header.{isHeader, headerRefusals}
+use Rattle.words.specs.Layout.{headerWidth, workerFrom, nodeWidth, layoutNumber, headerWords, total, goodCounts}
+use Rattle.words.specs.Records.{workerWords, nodeWords}
+use Rattle.words.specs.Replies.{accepted, replied}
+use Rattle.words.specs.Header.{isHeader, headerRefusals}
 use Rattle.arena.specs.Init.{freshWorkers, freshNodes, freshWords, initRefusals}
-use Rattle.arena.proofs.Bounds.{counts}
-use Rattle.arena.proofs.HeaderLaws.{header-of-some}
-use Rattle.arena.proofs.Judged.{none-holds}
-use Rattle.arena.proofs.Runs.{sets-append, length-copies, flat-copies}
+use Rattle.words.proofs.Bounds.{counts}
+use Rattle.words.proofs.HeaderLaws.{header-of-some}
+use Rattle.words.proofs.Judged.{none-holds}
+use Rattle.words.proofs.Runs.{sets-append, length-copies, flat-copies}
 
 -- the nodes begin where the workers end
 pub nodes-place : (workers nodes : ℕ) → length (headerWords layoutNumber workers nodes ++ freshWorkers workers) ≡ workerFrom workers

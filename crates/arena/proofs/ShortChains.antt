@@ -10,8 +10,8 @@ use lib.ListN.{length, length-map}
 use lib.Dec.{ltb, eqb}
 use borrow.Author.Tests.{ltb-true}
 use Rattle.worker.specs.Node.{head, tail}
-use Rattle.arena.specs.Layout.{layoutOf, nodesOf, nodeWidth, nodePart}
-use Rattle.arena.specs.Records.{keyAt, nextAt}
+use Rattle.words.specs.Layout.{layoutOf, nodesOf, nodeWidth, nodePart}
+use Rattle.words.specs.Records.{keyAt, nextAt}
 use Rattle.arena.specs.Snapshot.{walk, chain, chainKeys, keysOf}
 
 module _ (key : ℕ → ℕ) where

@@ -6,10 +6,10 @@ use lib.ListN.{length, drop, replicate}
 use lib.Dec.{ltb}
 use Rattle.worker.specs.Node.{headNode, tailNode, unusedNode}
 use Rattle.worker.specs.Worker.{idleWorker}
-use Rattle.arena.specs.Layout.{layoutNumber, goodCounts, headerWords, total}
-use Rattle.arena.specs.Records.{workerWords, nodeWords}
+use Rattle.words.specs.Layout.{layoutNumber, goodCounts, headerWords, total}
+use Rattle.words.specs.Records.{workerWords, nodeWords}
 use Rattle.worker.specs.Refusals.{Refusal, badCounts, shortArena}
-use Rattle.arena.specs.Replies.{Reply, replied, written}
+use Rattle.words.specs.Replies.{Reply, replied, written}
 
 -- the worker records of a fresh arena: idle
 unfoldable pub freshWorkers : ℕ → List ℕ

@@ -6,11 +6,18 @@ use mathlib.Core.Option.{Option, none, some, Option·map, Option·getD}
 use lib.ListN.{length, drop}
 use lib.Dec.{ltb, eqb}
 use Rattle.worker.specs.Node.{head, tail}
-use Rattle.arena.specs.Layout.{nodesOf, layoutOf, nodeWidth, nodePart}
-use Rattle.arena.specs.Records.{keyAt, nextAt}
+use Rattle.words.specs.Layout.{nodesOf, layoutOf, nodeWidth, nodePart}
+use Rattle.words.specs.Records.{keyAt, nextAt}
 use Rattle.worker.specs.Refusals.{Refusal, brokenChain, noRoom}
-use Rattle.arena.specs.Replies.{Reply, replied, written}
-use Rattle.arena.specs.Header.{headerRefusals}
+use Rattle.words.specs.Replies.{Reply, refused, accepted, replied, written}
+use Rattle.words.specs.Header.{headerRefusals}
+use Rattle.arena.specs.declared.Listing.{Listing}
+use Rattle.arena.specs.declared.Listing.the-variants as listing
+
+-- what a snapshot answers: the count of the keys, or the number of a refusal
+abbrev pub listingReply : Listing → Reply
+listingReply (listing.Keys count) = accepted (count ∷ [])
+listingReply (listing.Refused number) = refused number
 
 abbrev pub isNone : {A : Type 0} → Option A → Bool
 isNone none = true

@@ -4,11 +4,11 @@ use mathlib.Core.List.{List, [], _∷_, _++_}
 use mathlib.Core.Bool.{not}
 use lib.Dec.{leb, ltb, eqb}
 use Rattle.worker.specs.Worker.{isCall, idleStage, lastStage, startedWorker}
-use Rattle.arena.specs.Layout.{workersOf}
-use Rattle.arena.specs.Records.{workerAt, withWorker}
+use Rattle.words.specs.Layout.{workersOf}
+use Rattle.words.specs.Records.{workerAt, withWorker}
 use Rattle.worker.specs.Refusals.{Refusal, noSuchWorker, brokenRecord, busy, badCall}
-use Rattle.arena.specs.Replies.{Reply, replied, written}
-use Rattle.arena.specs.Header.{headerRefusals}
+use Rattle.words.specs.Replies.{Reply, replied, written}
+use Rattle.words.specs.Header.{headerRefusals}
 
 -- no such worker: 3; a stage above 25: 6; a stage not 0: 4; no call: 5
 unfoldable pub callRefusals : List ℕ → ℕ → ℕ → ℕ → List Refusal

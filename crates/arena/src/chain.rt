@@ -5,14 +5,14 @@ ghost use mathlib.Core.Bool.{false};
 ghost use mathlib.Core.List.{[], _∷_, _++_};
 ghost use lib.ListN.{length, drop};
 ghost use lib.Seq.{sets};
-ghost use Rattle.arena.specs.Replies.{listingReply, replied, written};
-ghost use Rattle.arena.specs.Snapshot.{isNone, chain, chainBroken, chainKeys, chainRefusals};
+ghost use Rattle.words.specs.Replies.{replied, written};
+ghost use Rattle.arena.specs.Snapshot.{listingReply, isNone, chain, chainBroken, chainKeys, chainRefusals};
 use crate::Listing;
-use crate::records::read_node;
-use crate::words::put;
-use crate::words::write;
 use worker::Node;
 use worker::refusal;
+use words::put;
+use words::records::read_node;
+use words::write;
 
 // Walks from Head to Tail and gathers the keys between in a row: the snapshot, were there room for any number of keys.
 fn survey(nodes: &[u16], width: u16, count: u16, row: &mut [u16]) -> Listing

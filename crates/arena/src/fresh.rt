@@ -5,20 +5,20 @@ ghost use mathlib.Core.List.{[], flatten};
 ghost use Prim.Native.Nat.{_+_, _*_, _≤_, _<_, _^_};
 ghost use lib.ListN.{length, replicate};
 ghost use lib.Seq.{sets};
-ghost use Rattle.arena.specs.Layout.{headerWidth, layoutNumber, nodeWidth, total, goodCounts, headerWords};
+ghost use Rattle.words.specs.Layout.{headerWidth, layoutNumber, nodeWidth, total, goodCounts, headerWords};
 ghost use Rattle.worker.specs.Node.{unusedNode};
-ghost use Rattle.arena.specs.Records.{nodeWords};
-ghost use Rattle.arena.specs.Replies.{verdictReply, replied};
+ghost use Rattle.words.specs.Records.{nodeWords};
+ghost use Rattle.words.specs.Replies.{verdictReply, replied};
 ghost use Rattle.arena.specs.Init.{freshWorkers, freshNodes, freshWords, initRefusals};
-use crate::Verdict;
-use crate::layout;
-use crate::records::worker_words;
-use crate::records::write_node;
-use crate::words::clear;
-use crate::words::write;
 use worker::Node;
 use worker::Worker;
 use worker::refusal;
+use words::Verdict;
+use words::clear;
+use words::layout;
+use words::records::worker_words;
+use words::records::write_node;
+use words::write;
 
 pub(crate) fn init_verdict(arena: &[u16], workers: u16, nodes: u16) -> Verdict
     ensures { λ r. ⌜ verdictReply r ≡ replied (initRefusals (now (arena .entry)) workers nodes) [] ⌝ }

@@ -1,28 +1,20 @@
-// An arena of lent 16-bit words (document 01: board): a header, worker records and node records.
+// What may be called on an arena (document 01: board) as a whole: lay a fresh one, start a call on a worker, list the chain.
 ghost use mathlib.Core.Path.{_≡_};
 ghost use mathlib.Core.List.{[]};
 ghost use lib.ListN.{length};
-ghost use Rattle.arena.specs.Replies.{verdictReply, listingReply, replied};
+ghost use Rattle.words.specs.Replies.{verdictReply, replied};
 ghost use Rattle.arena.specs.Init.{initAnswer, initArena};
 ghost use Rattle.arena.specs.Start.{callRefusals, startRefusals, startAnswer, startArena};
-ghost use Rattle.arena.specs.Snapshot.{snapshotAnswer, snapshotWords};
+ghost use Rattle.arena.specs.Snapshot.{listingReply, snapshotAnswer, snapshotWords};
 use worker::Worker;
 use worker::refusal;
+use words::Verdict;
+use words::header_verdict;
+use words::layout;
+use words::records;
 
 mod chain;
 mod fresh;
-mod header;
-pub mod layout;
-pub mod records;
-pub mod words;
-
-pub use header::header_verdict;
-
-// What a call that only may be refused answers.
-pub enum Verdict {
-    Accepted,
-    Refused(u16),
-}
 
 // What a snapshot answers: the count of the keys, or a refusal.
 pub enum Listing {

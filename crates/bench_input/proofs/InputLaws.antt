@@ -13,8 +13,8 @@ use types.Run.{OneOf}
 use lib.ListN.{length, take, replicate, length-append, length-replicate}
 use lib.Seq.{sets}
 use borrow.Author.Tests.{le-leb, lt-leb, lt-ltb, le-ltb}
-use Rattle.arena.specs.Layout.{goodCounts}
-use Rattle.arena.proofs.Runs.{sets-append, length-copies}
+use Rattle.words.specs.Layout.{goodCounts}
+use Rattle.words.proofs.Runs.{sets-append, length-copies}
 use Rattle.bench_input.specs.Bytes.{lineFeed, parts, placeOf}
 use Rattle.bench_input.specs.Lines.{mostEntries, lineOf}
 use Rattle.bench_input.specs.Input.{mostBytes, entry, Reading, planned, badLine, withLine, linesFrom, boardLine, inputLines}

@@ -10,8 +10,8 @@ use lib.ListN.{length, take, replicate, length-append, length-replicate}
 use lib.Seq.{sets-eq, take-at}
 use lib.Dec.{ltb, leb}
 use borrow.Author.Tests.{leb-true}
-use Rattle.arena.specs.Layout.{goodCounts}
-use Rattle.arena.proofs.Runs.{length-copies}
+use Rattle.words.specs.Layout.{goodCounts}
+use Rattle.words.proofs.Runs.{length-copies}
 use Rattle.bench_input.specs.Bytes.{lineFeed, parts}
 use Rattle.bench_input.specs.Lines.{mostEntries, lineOf}
 use Rattle.bench_input.specs.Input.{mostBytes, entry, Reading, planned, badLine, withLine, linesFrom, boardLine, inputLines}

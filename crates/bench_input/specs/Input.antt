@@ -6,7 +6,7 @@ use mathlib.Core.Option.{Option, none, some, Option·map, Option·getD}
 use lib.ListN.{length, replicate}
 use lib.Seq.{sets}
 use lib.Dec.{leb, ltb}
-use Rattle.arena.specs.Layout.{goodCounts}
+use Rattle.words.specs.Layout.{goodCounts}
 use Rattle.bench_input.specs.Bytes.{lineFeed, parts}
 use Rattle.bench_input.specs.Lines.{mostEntries, lineOf}
 use Rattle.bench_input.specs.declared.lines.Line.{Line}

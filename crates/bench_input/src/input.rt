@@ -13,8 +13,8 @@ use crate::bytes::find;
 use crate::lines::Line;
 use crate::lines::MOST_ENTRIES;
 use crate::lines::line_of;
-use arena::layout::good_counts;
-use arena::words::put;
+use words::layout::good_counts;
+use words::put;
 
 const MOST_BYTES: usize = 16384;
 

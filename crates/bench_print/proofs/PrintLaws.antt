@@ -7,7 +7,7 @@ use native.Mathlib.Numerals.{add-one}
 use native.Mathlib.Omega.{arith}
 use lib.ListN.{length, getD, take, length-append}
 use lib.Seq.{sets, length-sets, take-suc}
-use Rattle.arena.proofs.Runs.{sets-append, sets-out}
+use Rattle.words.proofs.Runs.{sets-append, sets-out}
 use Rattle.bench_print.specs.Print.{placeBehind, Printed, labelled, keysText}
 
 pub printed-none : (out : List ℕ) (at : ℕ) → Printed [] out at out at

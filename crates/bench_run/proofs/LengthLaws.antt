@@ -12,11 +12,11 @@ use borrow.Author.Tests.{eqb-true, leb-true, leb-false}
 use Rattle.worker.specs.Worker.{add, remove}
 use Rattle.worker.specs.Refusals.{Refusal, judged}
 use Rattle.worker.proofs.Laws.{range-bounds}
-use Rattle.arena.specs.Replies.{Reply, refused, accepted, replied}
+use Rattle.words.specs.Replies.{Reply, refused, accepted, replied}
 use Rattle.arena.specs.Init.{freshWords}
 use Rattle.arena.specs.Snapshot.{keysOf}
-use Rattle.arena.proofs.Bounds.{counts}
-use Rattle.arena.proofs.Judged.{judged-refused, judged-accepted}
+use Rattle.words.proofs.Bounds.{counts}
+use Rattle.words.proofs.Judged.{judged-refused, judged-accepted}
 use Rattle.arena.proofs.ShortChains.{keys-few}
 use Rattle.linear.specs.Lists.{filter}
 use Rattle.linear.specs.Entries.{Entry, isTurn}

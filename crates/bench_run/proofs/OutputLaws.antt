@@ -14,15 +14,15 @@ use Rattle.worker.specs.declared.report.Effect.{Effect}
 use Rattle.worker.specs.declared.report.Effect.the-variants as effect
 use Rattle.worker.specs.declared.report.Turned.{Turned}
 use Rattle.worker.specs.declared.report.Turned.the-variants as turned
-use Rattle.arena.specs.Layout.{layoutNumber, nodeWidth, goodCounts, total}
-use Rattle.arena.specs.Records.{withWorker}
-use Rattle.arena.specs.Replies.{refused, accepted, replied}
+use Rattle.words.specs.Layout.{layoutNumber, nodeWidth, goodCounts, total}
+use Rattle.words.specs.Records.{withWorker}
+use Rattle.words.specs.Replies.{refused, accepted, replied}
 use Rattle.arena.specs.Init.{freshWords}
 use Rattle.arena.specs.Start.{startRefusals, startArena}
 use Rattle.arena.specs.Snapshot.{keysOf, snapshotRefusals}
-use Rattle.arena.proofs.Bounds.{counts}
+use Rattle.words.proofs.Bounds.{counts}
 use Rattle.arena.proofs.FreshLaws.{fresh-length}
-use Rattle.arena.proofs.Judged.{judged-refused, judged-accepted, given-values}
+use Rattle.words.proofs.Judged.{judged-refused, judged-accepted, given-values}
 use Rattle.lazy.specs.Turn.{turnOn, withEffect, turnedArena, turnArena}
 use Rattle.linear.specs.Entries.{Entry, isTurn, after}
 use Rattle.linear.specs.History.{arenaAt, totals}

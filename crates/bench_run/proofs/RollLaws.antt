@@ -7,12 +7,12 @@ use lib.ListN.{length, take, drop}
 use lib.Seq.{take-append-seam}
 use borrow.Author.Tests.{le-ltb}
 use Rattle.worker.proofs.RefusalLaws.{NoneHolds, judged-append, none-accepts}
-use Rattle.arena.specs.Layout.{layoutOf, nodesOf, nodeWidth, nodePart}
-use Rattle.arena.specs.Replies.{refused, accepted, replied}
-use Rattle.arena.specs.Header.{headerRefusals}
+use Rattle.words.specs.Layout.{layoutOf, nodesOf, nodeWidth, nodePart}
+use Rattle.words.specs.Replies.{refused, accepted, replied}
+use Rattle.words.specs.Header.{headerRefusals}
 use Rattle.arena.specs.Snapshot.{chainBroken, chainTooLong, chainRefusals, keysOf, snapshotRefusals, snapshotAnswer, snapshotWords}
-use Rattle.arena.proofs.Bounds.{counts}
-use Rattle.arena.proofs.Judged.{judged-accepted}
+use Rattle.words.proofs.Bounds.{counts}
+use Rattle.words.proofs.Judged.{judged-accepted}
 use Rattle.arena.proofs.ShortChains.{keys-few}
 use Rattle.linear.specs.Sets.{ChainWhole}
 use Rattle.linear.proofs.Members.{whole}

@@ -16,9 +16,9 @@ use Rattle.worker.specs.declared.report.Seen.{Seen}
 use Rattle.worker.specs.declared.report.Step.{Step}
 use Rattle.worker.specs.declared.report.Turned.{Turned}
 use Rattle.worker.specs.declared.report.Turned.the-variants as turned
-use Rattle.arena.specs.Records.{workerAt}
-use Rattle.arena.specs.Replies.{Reply, refused, accepted, replied}
-use Rattle.arena.specs.Header.{headerRefusals}
+use Rattle.words.specs.Records.{workerAt}
+use Rattle.words.specs.Replies.{Reply, refused, accepted, replied}
+use Rattle.words.specs.Header.{headerRefusals}
 use Rattle.arena.specs.Init.{freshWords, initRefusals, initAnswer}
 use Rattle.arena.specs.Start.{callRefusals, startRefusals, startAnswer}
 use Rattle.arena.specs.Snapshot.{chainBroken, chainTooLong, chainRefusals, snapshotRefusals, snapshotAnswer}

@@ -3,7 +3,7 @@ use Prim.Native.Nat.{ℕ, _+_, _*_, _/_, _%_, _≤_, _<_}
 use mathlib.Core.Path.{_≡_}
 use mathlib.Core.List.{List, [], _∷_}
 use lib.ListN.{getD}
-use Rattle.arena.specs.Replies.{Reply, refused, accepted}
+use Rattle.words.specs.Replies.{Reply, refused, accepted}
 
 -- a reply, of a turn with its report first: the number of a refusal; or 0 in the lowest byte, the report in the next, and above them two
 -- values of 16 bits, where what there is none of is 0

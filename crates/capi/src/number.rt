@@ -1,12 +1,13 @@
 // Answers as one number.
 ghost use mathlib.Core.Path.{_≡_};
 ghost use Rattle.worker.specs.Report.{answerNumber};
-ghost use Rattle.arena.specs.Replies.{verdictReply, listingReply};
+ghost use Rattle.words.specs.Replies.{verdictReply};
+ghost use Rattle.arena.specs.Snapshot.{listingReply};
 ghost use Rattle.lazy.specs.Turn.{outcomeReply};
 ghost use Rattle.schedule.specs.Run.{summaryReply};
 ghost use Rattle.capi.specs.Number.{replyNumber, unreported, Fitting, bare};
 use arena::Listing;
-use arena::Verdict;
+use words::Verdict;
 use lazy::Outcome;
 use schedule::Summary;
 use worker::Answer;

@@ -3,7 +3,7 @@ use crate::print::end_line;
 use crate::print::show_words;
 use crate::turns::call;
 use crate::turns::show_outcome;
-use arena::words::put;
+use words::put;
 use worker::Worker;
 
 // Head, nodes 2 and 3 with keys 3 and 4, and back to node 2: no search ends.

@@ -3,7 +3,7 @@ use crate::print::end_line;
 use crate::print::show_word;
 use crate::print::show_words;
 use crate::turns::show_outcome;
-use arena::words::put;
+use words::put;
 use lazy::Outcome;
 use worker::Worker;
 

@@ -1,6 +1,6 @@
 // Lines of output: a text, what was replied, words.
 use arena::Listing;
-use arena::Verdict;
+use words::Verdict;
 
 pub fn show(text: &[u8], verdict: Verdict) {
     io::write_all(1, text);

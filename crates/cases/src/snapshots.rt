@@ -30,7 +30,7 @@ fn chain(text: &[u8], at: usize, word: u16, room: usize) {
     words[17] = 2;
     words[24] = 5;
     words[25] = 1;
-    arena::words::put(&mut words, at, word);
+    words::put(&mut words, at, word);
     let mut keys = [9u16; 2];
     snapshot(text, &words, &mut keys, room);
 }

@@ -22,7 +22,7 @@ pub fn headers() {
 // A start on the first words of a fresh arena, with one header word written anew.
 fn header(text: &[u8], at: usize, word: u16, room: usize) {
     let mut words = fresh();
-    arena::words::put(&mut words, at, word);
+    words::put(&mut words, at, word);
     start(text, &mut words, room);
 }
 
@@ -52,7 +52,7 @@ pub fn records() {
 // A start where worker 0 stands at a stage; then its record.
 fn record(text: &[u8], stage: u16, number: u16, operation: u16, key: u16) {
     let mut words = fresh();
-    arena::words::put(&mut words, 8, stage);
+    words::put(&mut words, 8, stage);
     show(text, arena::start(&mut words, number, operation, key));
     show_words(b"  record of worker 0:", &words[8..16]);
 }

@@ -3,9 +3,9 @@ use mathlib.Core.Path.{_≡_, refl}
 use mathlib.Core.List.{map, flatten}
 use Rattle.worker.specs.Stages.{stepOf}
 use Rattle.worker.specs.Turn.{belongs, kept, placed, astray, busyRefusals, turnRefusals, turnOf}
-use Rattle.arena.specs.Layout.{nodeWidth, headerWords, nodePart, nodeFrom}
-use Rattle.arena.specs.Records.{workerAt, withWorker, nodeAt}
-use Rattle.arena.specs.Header.{isHeader, headerRefusals}
+use Rattle.words.specs.Layout.{nodeWidth, headerWords, nodePart, nodeFrom}
+use Rattle.words.specs.Records.{workerAt, withWorker, nodeAt}
+use Rattle.words.specs.Header.{isHeader, headerRefusals}
 use Rattle.arena.specs.Init.{freshWorkers, freshNodes, freshWords}
 use Rattle.arena.specs.Start.{callRefusals, startRefusals, startArena}
 use Rattle.arena.specs.Snapshot.{walk, chain}

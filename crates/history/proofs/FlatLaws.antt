@@ -7,9 +7,9 @@ use native.Mathlib.Omega.{arith}
 use lib.Dec.{lit<}
 use lib.ListN.{length, getD, drop, length-append, length-drop}
 use Rattle.worker.specs.Refusals.{Refusal, judged}
-use Rattle.arena.specs.Replies.{replied}
+use Rattle.words.specs.Replies.{replied}
 use Rattle.arena.specs.Init.{freshWords}
-use Rattle.arena.proofs.Judged.{judged-refused, judged-accepted, given-values}
+use Rattle.words.proofs.Judged.{judged-refused, judged-accepted, given-values}
 use Rattle.linear.specs.History.{totals}
 use Rattle.schedule.specs.declared.Totals.{Totals}
 use Rattle.schedule.specs.declared.Summary.{Summary}

@@ -14,10 +14,10 @@ use Rattle.worker.specs.declared.report.Effect.the-variants as effect
 use Rattle.worker.specs.declared.report.Turned.{Turned}
 use Rattle.worker.specs.declared.report.Turned.the-variants as turned
 use Rattle.worker.proofs.EffectLaws.{EffectBelow, FreeBelow, done-below}
-use Rattle.arena.specs.Layout.{word, layoutNumber, layoutOf, workersOf, nodesOf, nodesFromOf, totalOf, nodeWidth, nodeFrom, nodeNext, nodeMark, nodeOwner}
-use Rattle.arena.specs.Records.{workerAt, Outside}
-use Rattle.arena.proofs.HeaderLaws.{Header}
-use Rattle.arena.proofs.Slots.{slot-within}
+use Rattle.words.specs.Layout.{word, layoutNumber, layoutOf, workersOf, nodesOf, nodesFromOf, totalOf, nodeWidth, nodeFrom, nodeNext, nodeMark, nodeOwner}
+use Rattle.words.specs.Records.{workerAt, Outside}
+use Rattle.words.proofs.HeaderLaws.{Header}
+use Rattle.words.proofs.Slots.{slot-within}
 use Rattle.lazy.specs.Turn.{seenOf, seenBy, turnOn, turnArena}
 use Rattle.lazy.specs.Claims.{nextIn, rootsIn, Touches, Elsewhere}
 use Rattle.lazy.proofs.FreeLaws.{lowest-found}

@@ -27,13 +27,13 @@ use Rattle.worker.proofs.RefusalLaws.{judged-append, none-accepts}
 use Rattle.worker.proofs.ReportLaws.{report-told}
 use Rattle.worker.proofs.TurnLaws.{judged-done, done-step, step-row}
 use Rattle.worker.proofs.StillLaws.{still-step}
-use Rattle.arena.specs.Layout.{word, workersOf, nodesOf, nodeFrom, nodeKey, nodeNext, nodeMark, nodeOwner}
-use Rattle.arena.specs.Records.{workerAt, nodeWords, Outside}
-use Rattle.arena.specs.Replies.{refused, accepted}
-use Rattle.arena.specs.Header.{headerRefusals}
-use Rattle.arena.proofs.HeaderLaws.{Header, header-holds}
-use Rattle.arena.proofs.Runs.{sets-outside}
-use Rattle.arena.proofs.RecordLaws.{others-stay, rewritten}
+use Rattle.words.specs.Layout.{word, workersOf, nodesOf, nodeFrom, nodeKey, nodeNext, nodeMark, nodeOwner}
+use Rattle.words.specs.Records.{workerAt, nodeWords, Outside}
+use Rattle.words.specs.Replies.{refused, accepted}
+use Rattle.words.specs.Header.{headerRefusals}
+use Rattle.words.proofs.HeaderLaws.{Header, header-holds}
+use Rattle.words.proofs.Runs.{sets-outside}
+use Rattle.words.proofs.RecordLaws.{others-stay, rewritten}
 use Rattle.lazy.specs.Free.{lowestFree}
 use Rattle.lazy.specs.declared.Outcome.{Outcome}
 use Rattle.lazy.specs.declared.Outcome.the-variants as outcome

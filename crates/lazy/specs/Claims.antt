@@ -9,8 +9,8 @@ use Rattle.worker.specs.declared.report.Answer.the-variants.{Full}
 use Rattle.worker.specs.declared.report.Step.{Step}
 use Rattle.worker.specs.declared.report.Effect.{Effect}
 use Rattle.worker.specs.declared.report.Effect.the-variants.{Nothing, SetOwner, SetNext, SetMark, Fill}
-use Rattle.arena.specs.Layout.{layoutOf, workersOf, nodesOf, nodeWidth, nodesFrom, totalOf, nodePart, nodeFrom, nodeNext, nodeMark, nodeOwner}
-use Rattle.arena.specs.Records.{workerAt, nextAt, Outside}
+use Rattle.words.specs.Layout.{layoutOf, workersOf, nodesOf, nodeWidth, nodesFrom, totalOf, nodePart, nodeFrom, nodeNext, nodeMark, nodeOwner}
+use Rattle.words.specs.Records.{workerAt, nextAt, Outside}
 use Rattle.lazy.specs.Free.{rootsOf, IsFree}
 
 -- the links and the roots of an arena

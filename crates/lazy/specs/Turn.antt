@@ -17,10 +17,10 @@ use Rattle.worker.specs.declared.report.Effect.{Effect}
 use Rattle.worker.specs.declared.report.Effect.the-variants as effect
 use Rattle.worker.specs.declared.report.Turned.{Turned}
 use Rattle.worker.specs.declared.report.Turned.the-variants as turned
-use Rattle.arena.specs.Layout.{layoutOf, workersOf, nodesOf, nodeWidth, nodeKey, nodeNext, nodeMark, nodeOwner, nodePart, nodeFrom}
-use Rattle.arena.specs.Records.{workerAt, withWorker, nodeWords, nodeAt}
-use Rattle.arena.specs.Replies.{Reply, refused, accepted}
-use Rattle.arena.specs.Header.{headerRefusals}
+use Rattle.words.specs.Layout.{layoutOf, workersOf, nodesOf, nodeWidth, nodeKey, nodeNext, nodeMark, nodeOwner, nodePart, nodeFrom}
+use Rattle.words.specs.Records.{workerAt, withWorker, nodeWords, nodeAt}
+use Rattle.words.specs.Replies.{Reply, refused, accepted}
+use Rattle.words.specs.Header.{headerRefusals}
 use Rattle.lazy.specs.Free.{rootsOf, lowestFree}
 use Rattle.lazy.specs.declared.Outcome.{Outcome}
 use Rattle.lazy.specs.declared.Outcome.the-variants as outcome

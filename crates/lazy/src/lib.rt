@@ -2,16 +2,15 @@
 ghost use mathlib.Core.Path.{_≡_};
 ghost use mathlib.Core.List.{[]};
 ghost use Prim.Native.Nat.{_≤_};
-ghost use Rattle.arena.specs.Layout.{workersOf};
-ghost use Rattle.arena.specs.Records.{workerAt, nodeAt};
-ghost use Rattle.arena.specs.Replies.{replied, accepted};
-ghost use Rattle.arena.specs.Header.{headerRefusals};
+ghost use Rattle.words.specs.Layout.{workersOf};
+ghost use Rattle.words.specs.Records.{workerAt, nodeAt};
+ghost use Rattle.words.specs.Replies.{replied, accepted};
+ghost use Rattle.words.specs.Header.{headerRefusals};
 ghost use Rattle.lazy.specs.Sight.{looksAtPred, looksAtCurr, lookedAt, sight};
 ghost use Rattle.lazy.specs.Turn.{outcomeReply, seenOf, seenBy, turnOn, withEffect, turnAnswer, turnArena};
-use arena::Verdict;
-use arena::layout;
-use arena::records;
-use arena::words;
+use words::Verdict;
+use words::layout;
+use words::records;
 use worker::Effect;
 use worker::Free;
 use worker::Node;
@@ -51,7 +50,7 @@ pub fn turn(arena: &mut [u16], worker: u16) -> Outcome
 fn turned(arena: &[u16], worker: u16) -> Turned
     ensures { λ r. ⌜ r ≡ turnOn (now (arena .entry)) worker ⌝ }
 {
-    if let Verdict::Refused(number) = arena::header_verdict(arena) {
+    if let Verdict::Refused(number) = words::header_verdict(arena) {
         return Turned::Refused(number);
     }
     if words::word(arena, layout::WORKERS_AT) <= worker {

@@ -7,7 +7,7 @@ use borrow.Author.Tests.{eq-eqb, ne-eqb}
 use Rattle.worker.specs.declared.Worker.{Worker}
 use Rattle.worker.specs.declared.report.Step.{Step}
 use Rattle.worker.specs.declared.report.Effect.{Effect}
-use Rattle.arena.specs.Layout.{nodeKey, nodeNext}
+use Rattle.words.specs.Layout.{nodeKey, nodeNext}
 use Rattle.linear.proofs.Reach.{here, along, same?}
 use Rattle.linear.proofs.State.{State, wordAfter, stepped}
 use Rattle.linear.proofs.Promises.{Holds, in-curr, Root, head, tail, held, Live}

@@ -15,12 +15,12 @@ use Rattle.worker.specs.declared.report.Step.{Step}
 use Rattle.worker.specs.declared.report.Turned.{Turned}
 use Rattle.worker.specs.declared.report.Turned.the-variants.{Refused, Done}
 use Rattle.worker.proofs.RefusalLaws.{NoneHolds, judged-keeps, judged-append, none-accepts}
-use Rattle.arena.specs.Layout.{workersOf, nodesOf}
-use Rattle.arena.specs.Records.{workerAt}
-use Rattle.arena.specs.Replies.{Reply, refused, accepted, replied}
-use Rattle.arena.specs.Header.{headerRefusals}
+use Rattle.words.specs.Layout.{workersOf, nodesOf}
+use Rattle.words.specs.Records.{workerAt}
+use Rattle.words.specs.Replies.{Reply, refused, accepted, replied}
+use Rattle.words.specs.Header.{headerRefusals}
 use Rattle.arena.specs.Start.{callRefusals, startRefusals, startArena}
-use Rattle.arena.proofs.Judged.{none-holds, judged-refused, judged-accepted}
+use Rattle.words.proofs.Judged.{none-holds, judged-refused, judged-accepted}
 use Rattle.lazy.specs.Free.{rootsOf}
 use Rattle.lazy.specs.Turn.{outcomeOf, seenOf, seenBy, workerRefusals, turnOn, withEffect, turnedArena, turnArena}
 use Rattle.lazy.proofs.InsideLaws.{effect-below}

@@ -5,7 +5,7 @@ use mathlib.Core.Logic.{_⊎_, inl, inr, ⊎-elim, ⊎-map, _≢_}
 use native.Mathlib.Omega.{arith}
 use Rattle.worker.specs.declared.report.Step.{Step}
 use Rattle.worker.specs.declared.report.Effect.{Effect}
-use Rattle.arena.specs.Layout.{nodeMark}
+use Rattle.words.specs.Layout.{nodeMark}
 use Rattle.linear.proofs.Reach.{Reach, here, same?}
 use Rattle.linear.proofs.State.{State, shapeOf, wordAfter, stepped}
 use Rattle.linear.proofs.Promises.{in-pred, in-curr, in-spare, Live, PredStays, Filled, Hit}

@@ -8,7 +8,7 @@ use lib.Dec.{eqb}
 use borrow.Author.Tests.{eq-eqb, ne-eqb}
 use Rattle.worker.specs.declared.report.Effect.{Effect}
 use Rattle.worker.specs.declared.report.Effect.the-variants.{Nothing, SetOwner, SetNext, SetMark, Fill}
-use Rattle.arena.specs.Layout.{nodeKey, nodeNext, nodeMark, nodeOwner}
+use Rattle.words.specs.Layout.{nodeKey, nodeNext, nodeMark, nodeOwner}
 use Rattle.linear.proofs.Reach.{Reach, here, on, join, carry, same?, Skip, skip, skip-back}
 use Rattle.linear.proofs.State.{State, shapeOf, wordAfter}
 use Rattle.linear.proofs.Promises.{Holds, in-pred, in-curr, in-spare, held, Live, Searching, Found, Gap, Filled, Hit, Bypassed}

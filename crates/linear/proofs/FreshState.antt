@@ -10,13 +10,13 @@ use lib.ListN.{length, replicate, List·getD-append}
 use lib.Seq.{getD-append-add}
 use Rattle.worker.specs.Node.{head, tail, headNode, tailNode, unusedNode}
 use Rattle.worker.specs.Worker.{idleWorker}
-use Rattle.arena.specs.Layout.{word, workerFrom, workerWidth, slot, layoutNumber, goodCounts, headerWords, nodeWidth, nodeKey, nodeNext, nodeOwner, nodeFrom}
-use Rattle.arena.specs.Records.{workerWords, nodeWords, nodeAt}
-use Rattle.arena.specs.Header.{headerRefusals}
+use Rattle.words.specs.Layout.{word, workerFrom, workerWidth, slot, layoutNumber, goodCounts, headerWords, nodeWidth, nodeKey, nodeNext, nodeOwner, nodeFrom}
+use Rattle.words.specs.Records.{workerWords, nodeWords, nodeAt}
+use Rattle.words.specs.Header.{headerRefusals}
 use Rattle.arena.specs.Init.{freshWorkers, freshNodes, freshWords}
-use Rattle.arena.proofs.Bounds.{counts}
-use Rattle.arena.proofs.Judged.{none-holds}
-use Rattle.arena.proofs.HeaderLaws.{Header}
+use Rattle.words.proofs.Bounds.{counts}
+use Rattle.words.proofs.Judged.{none-holds}
+use Rattle.words.proofs.HeaderLaws.{Header}
 use Rattle.arena.proofs.FreshLaws.{nodes-place, fresh-header}
 use Rattle.linear.proofs.State.{State, decode}
 use Rattle.linear.proofs.Words.{fieldIn, field-word, no-field}

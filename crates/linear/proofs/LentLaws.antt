@@ -4,10 +4,10 @@ use mathlib.Core.Path.{_≡_, sym, ap, subst, _∙_}
 use mathlib.Core.List.{List, [], _++_}
 use mathlib.Core.Bool.{true}
 use lib.ListN.{drop}
-use Rattle.arena.specs.Layout.{layoutNumber, total, goodCounts, headerWords}
-use Rattle.arena.specs.Replies.{accepted}
+use Rattle.words.specs.Layout.{layoutNumber, total, goodCounts, headerWords}
+use Rattle.words.specs.Replies.{accepted}
 use Rattle.arena.specs.Init.{freshWords, initRefusals, initAnswer, initArena}
-use Rattle.arena.proofs.Judged.{judged-accepted}
+use Rattle.words.proofs.Judged.{judged-accepted}
 use Rattle.arena.proofs.FreshLaws.{init-passed}
 use Rattle.linear.specs.Entries.{Entry, eventOf, after}
 use Rattle.linear.specs.History.{entryAt, arenaAt, eventAt}

@@ -19,7 +19,7 @@ use Rattle.worker.specs.declared.report.Step.{Step}
 use Rattle.worker.specs.declared.report.Effect.{Effect}
 use Rattle.worker.specs.declared.report.Effect.the-variants.{Nothing, SetOwner}
 use Rattle.worker.proofs.Tables.{AllFrom, end, _then_, row-at}
-use Rattle.arena.specs.Layout.{nodeOwner}
+use Rattle.words.specs.Layout.{nodeOwner}
 use Rattle.lazy.specs.Turn.{seenOf}
 use Rattle.linear.specs.Entries.{isWaits, turnReported}
 use Rattle.linear.proofs.Reach.{same?}

@@ -20,14 +20,14 @@ use Rattle.worker.specs.declared.report.Turned.{Turned}
 use Rattle.worker.specs.declared.report.Turned.the-variants.{Refused, Done}
 use Rattle.worker.proofs.RefusalLaws.{NoneHolds, judged-append, none-accepts}
 use Rattle.worker.proofs.EffectLaws.{EffectBelow}
-use Rattle.arena.specs.Layout.{word, headerWidth, workerFrom, nodeWidth, workersOf, nodesOf, nodesFromOf, totalOf, nodePart, nodeFrom, nodeKey, nodeNext, nodeMark, nodeOwner}
-use Rattle.arena.specs.Records.{workerAt, workerWords, withWorker, nodeWords, nodeAt}
-use Rattle.arena.specs.Replies.{Reply, refused, accepted, replied}
-use Rattle.arena.specs.Header.{headerRefusals}
+use Rattle.words.specs.Layout.{word, headerWidth, workerFrom, nodeWidth, workersOf, nodesOf, nodesFromOf, totalOf, nodePart, nodeFrom, nodeKey, nodeNext, nodeMark, nodeOwner}
+use Rattle.words.specs.Records.{workerAt, workerWords, withWorker, nodeWords, nodeAt}
+use Rattle.words.specs.Replies.{Reply, refused, accepted, replied}
+use Rattle.words.specs.Header.{headerRefusals}
 use Rattle.arena.specs.Start.{callRefusals, startRefusals, startArena}
-use Rattle.arena.proofs.HeaderLaws.{Header}
-use Rattle.arena.proofs.Judged.{none-holds, judged-refused, judged-accepted}
-use Rattle.arena.proofs.Runs.{sets-front}
+use Rattle.words.proofs.HeaderLaws.{Header}
+use Rattle.words.proofs.Judged.{none-holds, judged-refused, judged-accepted}
+use Rattle.words.proofs.Runs.{sets-front}
 use Rattle.lazy.specs.Turn.{outcomeOf, seenOf, seenBy, turnOn, withEffect, turnedArena, turnArena}
 use Rattle.lazy.proofs.TurnLaws.{turn-accepted}
 use Rattle.lazy.proofs.InsideLaws.{effect-below, field-inside}

@@ -7,7 +7,7 @@ use mathlib.Core.Bool.{true}
 use native.Mathlib.Decide.{ℕ-discrete}
 use native.Mathlib.Omega.{arith}
 use Rattle.worker.specs.Node.{head, tail}
-use Rattle.arena.specs.Layout.{nodesOf}
+use Rattle.words.specs.Layout.{nodesOf}
 use Rattle.linear.specs.Lists.{member}
 use Rattle.linear.specs.Sets.{ChainWhole, setOf, OnChain, top, link, InSet}
 use Rattle.linear.proofs.SetLaws.{chain-whole, set-members}

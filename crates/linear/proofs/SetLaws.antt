@@ -12,8 +12,8 @@ use native.Mathlib.Decide.{ℕ-discrete}
 use lib.Dec.{ltb, eqb}
 use borrow.Author.Tests.{eqb-true, eqb-false, eq-eqb, ne-eqb, ltb-true, ltb-false, lt-ltb}
 use Rattle.worker.specs.Node.{head, tail}
-use Rattle.arena.specs.Layout.{layoutOf, nodesOf, nodeWidth, nodePart}
-use Rattle.arena.specs.Records.{keyAt, nextAt}
+use Rattle.words.specs.Layout.{layoutOf, nodesOf, nodeWidth, nodePart}
+use Rattle.words.specs.Records.{keyAt, nextAt}
 use Rattle.arena.specs.Snapshot.{walk, chain, isNone}
 use Rattle.linear.specs.Lists.{filter, member, Each, none, _and_, Pairs, alone, _ahead_, Rising}
 use Rattle.linear.specs.Sets.{nodeIn, isUnmarked, walkOf, ChainWhole, chainOf, setOf, OnChain, top, link, InSet}

@@ -13,8 +13,8 @@ use Rattle.worker.specs.declared.report.Seen.{Seen}
 use Rattle.worker.specs.declared.report.Step.{Step}
 use Rattle.worker.specs.declared.report.Effect.{Effect}
 use Rattle.worker.specs.declared.report.Effect.the-variants.{Nothing, SetOwner, SetNext, SetMark, Fill}
-use Rattle.arena.specs.Layout.{word, workersOf, nodeKey, nodeNext, nodeMark, nodeOwner}
-use Rattle.arena.specs.Records.{workerAt, nodeWords}
+use Rattle.words.specs.Layout.{word, workersOf, nodeKey, nodeNext, nodeMark, nodeOwner}
+use Rattle.words.specs.Records.{workerAt, nodeWords}
 use Rattle.lazy.specs.Turn.{seenOf}
 use Rattle.linear.specs.Sets.{nodeIn}
 

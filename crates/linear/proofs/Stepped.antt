@@ -14,12 +14,12 @@ use Rattle.worker.specs.declared.report.Step.{Step}
 use Rattle.worker.specs.declared.report.Turned.the-variants.{Done}
 use Rattle.worker.proofs.RefusalLaws.{NoneHolds, none-accepts}
 use Rattle.worker.proofs.EffectLaws.{EffectBelow}
-use Rattle.arena.specs.Layout.{word, headerWidth, workerWidth, workerStage, workerOperation, workerKey, workerPred, workerCurr, workerSpare, workerAnswer, workerReserved, nodeKey, nodeNext, nodeMark, nodeOwner, workerFrom, nodeWidth, slot, headerWords, workersOf, nodesOf, nodesFromOf, nodeFrom, totalOf}
-use Rattle.arena.specs.Records.{workerAt, workerWords, withWorker, nodeAt, Outside}
-use Rattle.arena.specs.Replies.{refused, accepted}
-use Rattle.arena.specs.Header.{isHeader, headerRefusals}
-use Rattle.arena.proofs.HeaderLaws.{Header, header-holds}
-use Rattle.arena.proofs.RecordLaws.{read-back, others-stay}
+use Rattle.words.specs.Layout.{word, headerWidth, workerWidth, workerStage, workerOperation, workerKey, workerPred, workerCurr, workerSpare, workerAnswer, workerReserved, nodeKey, nodeNext, nodeMark, nodeOwner, workerFrom, nodeWidth, slot, headerWords, workersOf, nodesOf, nodesFromOf, nodeFrom, totalOf}
+use Rattle.words.specs.Records.{workerAt, workerWords, withWorker, nodeAt, Outside}
+use Rattle.words.specs.Replies.{refused, accepted}
+use Rattle.words.specs.Header.{isHeader, headerRefusals}
+use Rattle.words.proofs.HeaderLaws.{Header, header-holds}
+use Rattle.words.proofs.RecordLaws.{read-back, others-stay}
 use Rattle.lazy.specs.Turn.{withEffect, turnedArena}
 use Rattle.lazy.proofs.InsideLaws.{field-inside}
 use Rattle.linear.proofs.State.{decode, wordAfter, stepped}

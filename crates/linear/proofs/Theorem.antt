@@ -6,7 +6,7 @@ use mathlib.Core.List.{List, List·Memᴰ}
 use mathlib.Core.Bool.{true, false, true≢false}
 use native.Mathlib.Omega.{arith}
 use Rattle.worker.specs.Refusals.{noSuchWorker, brokenRecord, brokenChain}
-use Rattle.arena.specs.Layout.{goodCounts}
+use Rattle.words.specs.Layout.{goodCounts}
 use Rattle.arena.specs.Init.{freshWords}
 use Rattle.linear.specs.Lists.{filter, Pairs}
 use Rattle.linear.specs.Entries.{Entry, turnReported, entryRefused}

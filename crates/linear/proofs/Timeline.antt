@@ -12,10 +12,10 @@ use Rattle.worker.specs.Worker.{isCall, idleWorker, startedWorker}
 use Rattle.worker.specs.declared.report.Report.{Report}
 use Rattle.worker.specs.declared.report.Step.{Step}
 use Rattle.worker.proofs.TurnLaws.{step-row}
-use Rattle.arena.specs.Layout.{goodCounts}
+use Rattle.words.specs.Layout.{goodCounts}
 use Rattle.arena.specs.Init.{freshWords}
-use Rattle.arena.specs.Records.{workerAt}
-use Rattle.arena.proofs.Bounds.{counts}
+use Rattle.words.specs.Records.{workerAt}
+use Rattle.words.proofs.Bounds.{counts}
 use Rattle.linear.specs.Lists.{member}
 use Rattle.linear.specs.Sets.{setOf}
 use Rattle.linear.specs.Entries.{Entry, Event, callStarted, turnReported, entryRefused, isStarted, isReported, isFinished, eventOf}

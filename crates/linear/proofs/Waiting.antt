@@ -14,8 +14,8 @@ use borrow.Author.Tests.{eqb-true, eq-eqb, ne-eqb}
 use Rattle.worker.specs.declared.Worker.{Worker}
 use Rattle.worker.specs.declared.report.Report.the-variants as report
 use Rattle.worker.specs.declared.report.Effect.the-variants.{Nothing}
-use Rattle.arena.specs.Layout.{nodeOwner}
-use Rattle.arena.specs.Records.{workerAt}
+use Rattle.words.specs.Layout.{nodeOwner}
+use Rattle.words.specs.Records.{workerAt}
 use Rattle.linear.specs.Lists.{filter}
 use Rattle.linear.specs.Entries.{Entry, Event, callStarted, turnReported, entryRefused, isWaits, isFinished, eventValues}
 use Rattle.linear.specs.History.{arenaAt, startsCallOf, callNumber, finishOf, callAt, calls, times, waitsAt, waitAt, waits, totals}

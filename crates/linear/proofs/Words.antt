@@ -15,11 +15,11 @@ use Rattle.worker.specs.declared.Node.{Node}
 use Rattle.worker.specs.declared.report.Effect.{Effect}
 use Rattle.worker.specs.declared.report.Effect.the-variants.{Nothing, SetOwner, SetNext, SetMark, Fill}
 use Rattle.worker.proofs.EffectLaws.{EffectBelow}
-use Rattle.arena.specs.Layout.{word, nodesOf, layoutOf, nodesFromOf, totalOf, nodeWidth, nodeKey, nodeNext, nodeMark, nodeOwner, nodePart, nodeFrom, slot}
-use Rattle.arena.specs.Records.{nodeWords}
-use Rattle.arena.proofs.HeaderLaws.{Header}
-use Rattle.arena.proofs.Slots.{slot-same}
-use Rattle.arena.proofs.Runs.{sets-outside, sets-at}
+use Rattle.words.specs.Layout.{word, nodesOf, layoutOf, nodesFromOf, totalOf, nodeWidth, nodeKey, nodeNext, nodeMark, nodeOwner, nodePart, nodeFrom, slot}
+use Rattle.words.specs.Records.{nodeWords}
+use Rattle.words.proofs.HeaderLaws.{Header}
+use Rattle.words.proofs.Slots.{slot-same}
+use Rattle.words.proofs.Runs.{sets-outside, sets-at}
 use Rattle.lazy.specs.Turn.{withEffect}
 use Rattle.lazy.proofs.InsideLaws.{fields-fit, field-inside}
 use Rattle.linear.proofs.State.{wordAfter}

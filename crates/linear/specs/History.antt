@@ -8,7 +8,7 @@ use lib.Dec.{eqb}
 use Rattle.worker.specs.Worker.{contains, within}
 use Rattle.worker.specs.Report.{answerNumber}
 use Rattle.worker.specs.declared.report.Answer.the-variants.{No, Full}
-use Rattle.arena.specs.Records.{workerAt}
+use Rattle.words.specs.Records.{workerAt}
 use Rattle.linear.specs.Lists.{filter, member, timesFrom, first, latest}
 use Rattle.linear.specs.Sets.{setOf}
 use Rattle.linear.specs.Entries.{Entry, Event, eventOf, after, isStarted, isReported, isRefused, isWaits, isFinished, eventValues}

@@ -3,9 +3,9 @@ use Prim.Native.Nat.{ℕ}
 use mathlib.Core.Path.{_≡_}
 use mathlib.Core.List.{List, [], _++_}
 use lib.ListN.{drop}
-use Rattle.arena.specs.Layout.{layoutNumber, total}
-use Rattle.arena.specs.Replies.{accepted, replied}
-use Rattle.arena.specs.Header.{headerRefusals}
+use Rattle.words.specs.Layout.{layoutNumber, total}
+use Rattle.words.specs.Replies.{accepted, replied}
+use Rattle.words.specs.Header.{headerRefusals}
 use Rattle.arena.specs.Init.{freshWords, initAnswer, initArena}
 use Rattle.linear.specs.Entries.{Entry, eventOf, after}
 use Rattle.linear.specs.History.{arenaAt, eventAt}

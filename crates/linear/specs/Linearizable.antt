@@ -10,8 +10,8 @@ use Rattle.worker.specs.Refusals.{brokenRecord, brokenChain}
 use Rattle.worker.specs.Report.{answerNumber}
 use Rattle.worker.specs.declared.report.Answer.{Answer}
 use Rattle.worker.specs.declared.report.Report.the-variants.{Finished}
-use Rattle.arena.specs.Layout.{workersOf}
-use Rattle.arena.specs.Records.{workerAt}
+use Rattle.words.specs.Layout.{workersOf}
+use Rattle.words.specs.Records.{workerAt}
 use Rattle.linear.specs.Lists.{member}
 use Rattle.linear.specs.Sets.{nodeIn, ChainWhole, setOf, InSet}
 use Rattle.linear.specs.Entries.{Entry, isTurn, turnReported, entryRefused}

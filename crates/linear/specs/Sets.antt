@@ -8,8 +8,8 @@ use mathlib.Core.Option.{Option, Option·getD}
 use lib.Dec.{eqb}
 use Rattle.worker.specs.Node.{head, tail}
 use Rattle.worker.specs.declared.Node.{Node}
-use Rattle.arena.specs.Layout.{layoutOf, nodesOf, nodeWidth, nodePart}
-use Rattle.arena.specs.Records.{nodeAt}
+use Rattle.words.specs.Layout.{layoutOf, nodesOf, nodeWidth, nodePart}
+use Rattle.words.specs.Records.{nodeAt}
 use Rattle.arena.specs.Snapshot.{chain, isNone}
 use Rattle.linear.specs.Lists.{filter}
 

@@ -4,9 +4,9 @@ use mathlib.Core.Path.{_≡_, refl, sym, ap}
 use mathlib.Core.Logic.{_≢_}
 use mathlib.Core.List.{List, []}
 use borrow.Author.Tests.{ne-eqb}
-use Rattle.arena.specs.Replies.{refused, accepted}
+use Rattle.words.specs.Replies.{refused, accepted}
 use Rattle.arena.specs.Start.{startRefusals, startAnswer, startArena}
-use Rattle.arena.proofs.Judged.{judged-refused, judged-accepted}
+use Rattle.words.proofs.Judged.{judged-refused, judged-accepted}
 use Rattle.lazy.specs.declared.Outcome.{Outcome}
 use Rattle.lazy.specs.Turn.{outcomeReply, turnAnswer, turnArena}
 use Rattle.lazy.proofs.TurnLaws.{answer-told}

@@ -13,9 +13,9 @@ use borrow.Author.Tests.{eq-eqb, ne-eqb}
 use Rattle.worker.specs.Worker.{contains}
 use Rattle.worker.specs.declared.report.Report.{Report}
 use Rattle.worker.specs.declared.report.Report.the-variants as report
-use Rattle.arena.specs.Layout.{workersOf}
-use Rattle.arena.specs.Records.{workerAt}
-use Rattle.arena.proofs.Bounds.{counts}
+use Rattle.words.specs.Layout.{workersOf}
+use Rattle.words.specs.Records.{workerAt}
+use Rattle.words.proofs.Bounds.{counts}
 use Rattle.linear.specs.Sets.{setOf}
 use Rattle.linear.specs.Lists.{member, filter, timesFrom}
 use Rattle.linear.specs.Entries.{Event, callStarted, turnReported, entryRefused, isStarted, isReported, isRefused, isWaits}

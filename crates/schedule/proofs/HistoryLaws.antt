@@ -8,10 +8,10 @@ use lib.ListN.{length, length-map}
 use lib.Dec.{eqb, ltb}
 use borrow.Author.Tests.{ltb-true, ltb-false, eqb-true, not-false, lt-ltb, le-ltb}
 use Rattle.worker.specs.Refusals.{judged}
-use Rattle.arena.specs.Layout.{layoutNumber, goodCounts, total}
-use Rattle.arena.specs.Replies.{accepted, replied}
+use Rattle.words.specs.Layout.{layoutNumber, goodCounts, total}
+use Rattle.words.specs.Replies.{accepted, replied}
 use Rattle.arena.specs.Init.{freshWords}
-use Rattle.arena.proofs.Judged.{none-holds}
+use Rattle.words.proofs.Judged.{none-holds}
 use Rattle.linear.specs.Entries.{Entry, isTurn}
 use Rattle.linear.specs.History.{totals, calls, waits}
 use Rattle.linear.proofs.Waiting.{waits-counted}

@@ -17,7 +17,7 @@ use Rattle.worker.specs.declared.Worker.{Worker}
 use Rattle.worker.specs.declared.report.Answer.the-variants.{Yes}
 use Rattle.worker.specs.declared.report.Report.{Report}
 use Rattle.worker.specs.declared.report.Step.{Step}
-use Rattle.arena.specs.Records.{workerAt}
+use Rattle.words.specs.Records.{workerAt}
 use Rattle.linear.specs.Lists.{first}
 use Rattle.linear.specs.Entries.{turnReported}
 use Rattle.linear.specs.History.{isDecision, absentAt}

@@ -11,8 +11,8 @@ use lib.ListN.{take, drop}
 use lib.Dec.{eqb}
 use borrow.Author.Tests.{eq-eqb, ne-eqb}
 use Rattle.worker.specs.Node.{head, tail}
-use Rattle.arena.specs.Layout.{word, nodesOf, nodeWidth, nodePart}
-use Rattle.arena.specs.Records.{nodeAt}
+use Rattle.words.specs.Layout.{word, nodesOf, nodeWidth, nodePart}
+use Rattle.words.specs.Records.{nodeAt}
 use Rattle.linear.specs.Lists.{filter, member}
 use Rattle.linear.specs.Sets.{nodeIn, isUnmarked, ChainWhole, chainOf, setOf}
 use Rattle.linear.proofs.ListLaws.{from-filter, from-map}

@@ -11,9 +11,9 @@ use lib.ListN.{length, getD, take, drop, length-map, length-append, take-append-
 use lib.Seq.{take-suc}
 use borrow.Author.Tests.{le-ltb}
 use Rattle.worker.proofs.RefusalLaws.{none-accepts}
-use Rattle.arena.specs.Layout.{layoutNumber, goodCounts, total}
-use Rattle.arena.specs.Replies.{refused, accepted, replied}
-use Rattle.arena.specs.Header.{headerRefusals}
+use Rattle.words.specs.Layout.{layoutNumber, goodCounts, total}
+use Rattle.words.specs.Replies.{refused, accepted, replied}
+use Rattle.words.specs.Header.{headerRefusals}
 use Rattle.arena.specs.Init.{freshWords, initRefusals, initArena}
 use Rattle.linear.specs.Lists.{filter, timesFrom}
 use Rattle.linear.specs.Entries.{Entry, isTurn, isStarted, isRefused, isWaits, after}

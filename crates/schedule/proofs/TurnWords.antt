@@ -15,7 +15,7 @@ use Rattle.worker.specs.declared.Worker.{Worker}
 use Rattle.worker.specs.declared.report.Report.{Report}
 use Rattle.worker.specs.declared.report.Report.the-variants as report
 use Rattle.worker.specs.declared.report.Step.{Step}
-use Rattle.arena.specs.Records.{workerAt}
+use Rattle.words.specs.Records.{workerAt}
 use Rattle.linear.specs.Entries.{turnReported, isStarted, isFinished}
 use Rattle.linear.specs.History.{arenaAt, finishesAt, decidesAt, isDecision, isLate, answerOf, pointOf}
 use Rattle.linear.proofs.ListLaws.{first-none}

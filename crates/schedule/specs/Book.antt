@@ -10,8 +10,8 @@ use Rattle.worker.specs.Report.{answerNumber}
 use Rattle.worker.specs.declared.Worker.{Worker}
 use Rattle.worker.specs.declared.report.Answer.the-variants.{Yes}
 use Rattle.worker.specs.declared.report.Report.the-variants as report
-use Rattle.arena.specs.Layout.{layoutOf, workersOf, nodesOf, nodeWidth, nodePart}
-use Rattle.arena.specs.Records.{workerAt}
+use Rattle.words.specs.Layout.{layoutOf, workersOf, nodesOf, nodeWidth, nodePart}
+use Rattle.words.specs.Records.{workerAt}
 use Rattle.arena.specs.Snapshot.{chain, isNone}
 use Rattle.linear.specs.Lists.{member}
 use Rattle.linear.specs.Sets.{setOf}

@@ -6,8 +6,8 @@ use lib.ListN.{length, drop}
 use lib.Dec.{ltb, eqb}
 use Rattle.worker.specs.Worker.{add, contains, within}
 use Rattle.worker.specs.Refusals.{Refusal, judged, badCounts, badSchedule, shortArena, noRoom}
-use Rattle.arena.specs.Layout.{layoutNumber, goodCounts, total}
-use Rattle.arena.specs.Replies.{Reply, refused, accepted, replied, written}
+use Rattle.words.specs.Layout.{layoutNumber, goodCounts, total}
+use Rattle.words.specs.Replies.{Reply, refused, accepted, replied, written}
 use Rattle.arena.specs.Init.{freshWords}
 use Rattle.linear.specs.Lists.{filter}
 use Rattle.linear.specs.Entries.{Entry, isTurn}

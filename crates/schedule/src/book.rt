@@ -2,9 +2,9 @@
 ghost use mathlib.Core.Path.{_≡_};
 ghost use Prim.Native.Nat.{_<_};
 ghost use lib.ListN.{getD};
-ghost use Rattle.arena.specs.Records.{workerAt};
+ghost use Rattle.words.specs.Records.{workerAt};
 ghost use Rattle.schedule.specs.Book.{newBook, withStart, withRefusal, withWait, withAbsent, missedOne, missed};
-use arena::records;
+use words::records;
 use worker::Worker;
 
 pub(crate) struct Book {

@@ -3,7 +3,6 @@ ghost use mathlib.Core.Path.{_≡_};
 ghost use Rattle.schedule.specs.Run.{callWords};
 ghost use Rattle.schedule.specs.Book.{newCall, decidedCall, finishedCall, callIn, withCall};
 use crate::Call;
-use arena::words;
 
 // Words of a record.
 pub const WIDTH: usize = 7;

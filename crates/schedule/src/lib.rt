@@ -3,15 +3,15 @@ ghost use mathlib.Core.Path.{_≡_};
 ghost use mathlib.Core.Bool.{true};
 ghost use Prim.Native.Nat.{_*_, _/_, _%_, _≤_};
 ghost use lib.ListN.{length};
-ghost use Rattle.arena.specs.Layout.{layoutNumber, goodCounts, total};
+ghost use Rattle.words.specs.Layout.{layoutNumber, goodCounts, total};
 ghost use Rattle.arena.specs.Init.{freshWords};
 ghost use Rattle.linear.specs.Entries.{isTurn};
 ghost use Rattle.linear.specs.History.{totals, arenaAt};
 ghost use Rattle.schedule.specs.Run.{entryWidth, entriesOf, isOperation, countIn, callWidth, callWords, recordsOf};
 ghost use Rattle.schedule.specs.Run.{waitWidth, waitWords, waitsOf, flatWords, told, totalsOf};
 ghost use Rattle.schedule.specs.Run.{summaryReply, runAnswer, runArena, runCallWords, runWaitWords, DoneLinearizable};
-use arena::Verdict;
-use arena::layout;
+use words::Verdict;
+use words::layout;
 use book::Book;
 
 mod book;

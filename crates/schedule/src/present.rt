@@ -2,14 +2,13 @@
 ghost use mathlib.Core.Path.{_≡_};
 ghost use mathlib.Core.List.{[]};
 ghost use mathlib.Core.Bool.{false};
-ghost use Rattle.arena.specs.Replies.{accepted, replied};
-ghost use Rattle.arena.specs.Header.{headerRefusals};
+ghost use Rattle.words.specs.Replies.{accepted, replied};
+ghost use Rattle.words.specs.Header.{headerRefusals};
 ghost use Rattle.linear.specs.Lists.{member};
 ghost use Rattle.linear.specs.Sets.{setOf};
 ghost use Rattle.schedule.specs.Book.{isBroken};
-use arena::layout;
-use arena::records;
-use arena::words;
+use words::layout;
+use words::records;
 use worker::Node;
 
 // Walks along the chain, whose keys rise, up to where the key must stand.

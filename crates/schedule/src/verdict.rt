@@ -3,10 +3,10 @@ ghost use mathlib.Core.Path.{_≡_};
 ghost use mathlib.Core.List.{[]};
 ghost use lib.Dec.{leb};
 ghost use Rattle.worker.specs.Worker.{within};
-ghost use Rattle.arena.specs.Replies.{verdictReply, replied};
+ghost use Rattle.words.specs.Replies.{verdictReply, replied};
 ghost use Rattle.schedule.specs.Run.{isBadSchedule, entriesOf, countIn, runRefusals};
-use arena::Verdict;
-use arena::layout;
+use words::Verdict;
+use words::layout;
 use worker::Worker;
 use worker::refusal;
 

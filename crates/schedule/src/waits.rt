@@ -3,7 +3,6 @@ ghost use mathlib.Core.Path.{_≡_};
 ghost use Rattle.schedule.specs.Run.{waitWords};
 ghost use Rattle.schedule.specs.Book.{waitIn, withRecord};
 use crate::Wait;
-use arena::words;
 
 // Words of a record.
 pub const WIDTH: usize = 4;

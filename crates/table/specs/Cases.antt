@@ -10,8 +10,8 @@ use Rattle.worker.specs.Report.{reportValues}
 use Rattle.worker.specs.declared.report.Answer.the-variants.{Yes, No}
 use Rattle.worker.specs.declared.report.Report.{Report}
 use Rattle.worker.specs.declared.report.Report.the-variants.{Idle, Waits, Finished}
-use Rattle.arena.specs.Layout.{word}
-use Rattle.arena.specs.Replies.{Reply, refused, accepted}
+use Rattle.words.specs.Layout.{word}
+use Rattle.words.specs.Replies.{Reply, refused, accepted}
 use Rattle.arena.specs.Init.{initAnswer, initArena}
 use Rattle.arena.specs.Start.{startAnswer, startArena}
 use Rattle.lazy.specs.Turn.{turnAnswer, turnArena}

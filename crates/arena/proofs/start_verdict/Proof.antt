@@ -3,10 +3,10 @@ use mathlib.Core.Path.{sym, ap, _∙_}
 use mathlib.Core.List.{[]}
 use denote.Ref.{now}
 use borrow.Author.Needs.{needs}
-use Rattle.arena.specs.Replies.{verdictReply}
-use Rattle.arena.specs.Header.{headerRefusals}
+use Rattle.words.specs.Replies.{verdictReply}
+use Rattle.words.specs.Header.{headerRefusals}
 use Rattle.arena.specs.Start.{callRefusals, startRefusals}
-use Rattle.arena.proofs.Judged.{refused-first, accepted-first}
+use Rattle.words.proofs.Judged.{refused-first, accepted-first}
 use Rattle.arena.proofs.start_verdict.Statement.{statement}
 use Rattle.arena.proofs.start_verdict.Tie as tie
 

@@ -3,7 +3,7 @@ use mathlib.Core.Path.{sym, ap, _∙_}
 use lib.ListN.{length-replicate, replicate}
 use denote.Ref.{now}
 use borrow.Author.Needs.{needs}
-use Rattle.arena.specs.Replies.{listingReply}
+use Rattle.arena.specs.Snapshot.{listingReply}
 use Rattle.bench_run.proofs.RollLaws.{not-refused, keys-are}
 use Rattle.bench_run.proofs.print_keys.Statement.{statement}
 use Rattle.bench_run.proofs.print_keys.Tie as tie

@@ -5,7 +5,7 @@ use native.Mathlib.Omega.{arith}
 use denote.Ref.{now}
 use lib.ListN.{length, replicate, length-replicate}
 use borrow.Author.Needs.{needs}
-use Rattle.arena.specs.Layout.{layoutNumber, total}
+use Rattle.words.specs.Layout.{layoutNumber, total}
 use Rattle.schedule.specs.Run.{summaryReply, runAnswer}
 use Rattle.schedule.specs.declared.Summary.the-variants as summary
 use Rattle.bench_print.proofs.PrintLaws.{printed-then}

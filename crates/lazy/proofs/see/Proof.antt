@@ -2,8 +2,8 @@
 use native.Mathlib.Omega.{arith}
 use borrow.Author.Needs.{needs}
 use denote.Ref.{now}
-use Rattle.arena.specs.Layout.{nodePart}
-use Rattle.arena.proofs.HeaderLaws.{Header, header-holds}
+use Rattle.words.specs.Layout.{nodePart}
+use Rattle.words.proofs.HeaderLaws.{Header, header-holds}
 use Rattle.lazy.specs.Turn.{seenBy}
 use Rattle.lazy.proofs.see.Statement.{statement}
 use Rattle.lazy.proofs.see.Tie as tie

@@ -6,10 +6,10 @@ use native.Mathlib.Numerals.{add-one}
 use borrow.Author.Needs.{needs}
 use borrow.Author.Tests.{le-leb, lt-leb}
 use denote.Ref.{now}
-use Rattle.arena.specs.Replies.{verdictReply, accepted, replied}
-use Rattle.arena.specs.Header.{headerRefusals}
-use Rattle.arena.proofs.HeaderLaws.{header-holds}
-use Rattle.arena.proofs.Judged.{refused-first, accepted-first}
+use Rattle.words.specs.Replies.{verdictReply, accepted, replied}
+use Rattle.words.specs.Header.{headerRefusals}
+use Rattle.words.proofs.HeaderLaws.{header-holds}
+use Rattle.words.proofs.Judged.{refused-first, accepted-first}
 use Rattle.lazy.specs.Turn.{workerRefusals, turnOn}
 use Rattle.lazy.proofs.SightLaws.{sight-enough}
 use Rattle.lazy.proofs.turned.Statement.{statement}

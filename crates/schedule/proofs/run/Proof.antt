@@ -7,9 +7,9 @@ use lib.ListN.{length}
 use lib.Seq.{length-take-le}
 use denote.Ref.{now}
 use borrow.Author.Needs.{needs}
-use Rattle.arena.specs.Layout.{layoutNumber, total}
-use Rattle.arena.specs.Replies.{verdictReply}
-use Rattle.arena.proofs.Judged.{judged-refused, judged-accepted}
+use Rattle.words.specs.Layout.{layoutNumber, total}
+use Rattle.words.specs.Replies.{verdictReply}
+use Rattle.words.proofs.Judged.{judged-refused, judged-accepted}
 use Rattle.linear.proofs.Theorem.{linearizable}
 use Rattle.schedule.specs.Run.{callWidth, waitWidth, entriesOf, runRefusals, runAnswer, runArena, rowAfter}
 use Rattle.schedule.proofs.HistoryLaws.{Accepted, run-passed}

@@ -7,7 +7,8 @@ use denote.Ref.{now}
 use lib.ListN.{drop, replicate, length-replicate}
 use lib.Seq.{length-take-le}
 use borrow.Author.Needs.{needs}
-use Rattle.arena.specs.Replies.{listingReply, accepted}
+use Rattle.words.specs.Replies.{accepted}
+use Rattle.arena.specs.Snapshot.{listingReply}
 use Rattle.arena.proofs.ShortChains.{chain-few}
 use Rattle.arena.proofs.Walks.{keys-broken, keys-count, keys-written, keys-fit, keys-short}
 use Rattle.arena.proofs.chain.write_keys.Statement.{statement}

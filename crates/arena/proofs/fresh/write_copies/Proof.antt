@@ -7,7 +7,7 @@ use denote.Ref.{now}
 use lib.ListN.{length, replicate}
 use lib.Seq.{sets}
 use borrow.Author.Needs.{needs}
-use Rattle.arena.proofs.Runs.{copies-on}
+use Rattle.words.proofs.Runs.{copies-on}
 use Rattle.arena.proofs.fresh.write_copies.Statement.{statement}
 use Rattle.arena.proofs.fresh.write_copies.Tie as tie
 

@@ -2,7 +2,7 @@
 use borrow.Author.Needs.{needs}
 use native.Mathlib.Omega.{arith}
 use denote.Ref.{now}
-use Rattle.arena.proofs.Bounds.{counts}
+use Rattle.words.proofs.Bounds.{counts}
 use Rattle.arena.proofs.FreshLaws.{fresh-runs}
 use Rattle.arena.proofs.fresh.write_fresh.Statement.{statement}
 use Rattle.arena.proofs.fresh.write_fresh.Tie as tie

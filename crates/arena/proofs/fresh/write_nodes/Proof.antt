@@ -2,7 +2,7 @@
 use native.Mathlib.Numerals.{towards-suc}
 use native.Mathlib.Omega.{arith}
 use borrow.Author.Needs.{needs}
-use Rattle.arena.specs.Layout.{nodeWidth}
+use Rattle.words.specs.Layout.{nodeWidth}
 use Rattle.arena.specs.Init.{freshNodes}
 use Rattle.arena.proofs.fresh.write_nodes.Statement.{statement}
 use Rattle.arena.proofs.fresh.write_nodes.Tie as tie

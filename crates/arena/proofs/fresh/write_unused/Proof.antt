@@ -6,8 +6,8 @@ use denote.Ref.{now}
 use lib.ListN.{length, length-replicate}
 use borrow.Author.Needs.{needs}
 use borrow.Rule.Slice.PartMut.{mid-len}
-use Rattle.arena.specs.Layout.{layoutNumber, nodeWidth}
-use Rattle.arena.proofs.Runs.{part-sets}
+use Rattle.words.specs.Layout.{layoutNumber, nodeWidth}
+use Rattle.words.proofs.Runs.{part-sets}
 use Rattle.arena.proofs.FreshLaws.{unused-zeros}
 use Rattle.arena.proofs.fresh.write_unused.Statement.{statement}
 use Rattle.arena.proofs.fresh.write_unused.Tie as tie

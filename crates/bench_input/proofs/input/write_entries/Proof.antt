@@ -7,7 +7,7 @@ use native.Mathlib.Omega.{arith}
 use lib.ListN.{length, replicate}
 use lib.Seq.{sets}
 use borrow.Author.Needs.{needs}
-use Rattle.arena.proofs.Runs.{copies-on}
+use Rattle.words.proofs.Runs.{copies-on}
 use Rattle.bench_input.specs.Input.{entry}
 use Rattle.bench_input.proofs.input.write_entries.Statement.{statement}
 use Rattle.bench_input.proofs.input.write_entries.Tie as tie

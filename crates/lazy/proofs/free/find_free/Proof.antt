@@ -7,8 +7,8 @@ use native.Mathlib.Numerals.{add-one}
 use denote.Ref.{now}
 use lib.ListN.{length}
 use borrow.Author.Needs.{needs}
-use Rattle.arena.specs.Layout.{workersOf}
-use Rattle.arena.specs.Records.{workerAt, nextAt}
+use Rattle.words.specs.Layout.{workersOf}
+use Rattle.words.specs.Records.{workerAt, nextAt}
 use Rattle.lazy.specs.Free.{rootsOf}
 use Rattle.lazy.specs.Row.{emptyRow, Reaches}
 use Rattle.lazy.proofs.Search.{empty-closed, both, swapped}

@@ -1,7 +1,7 @@
 -- Each turn of the loop puts one more node into the row, so the nodes that it misses bound the turns.
 use native.Mathlib.Omega.{arith}
 use borrow.Author.Needs.{needs}
-use Rattle.arena.specs.Records.{nodeAt, nextAt}
+use Rattle.words.specs.Records.{nodeAt, nextAt}
 use Rattle.lazy.proofs.Rows.{missing, one-less}
 use Rattle.lazy.proofs.Walk.{Walking, begin, step, finish}
 use Rattle.lazy.proofs.free.reach_from.Statement.{statement}

@@ -4,7 +4,7 @@ use mathlib.Core.Bool.{true, false}
 use denote.Ref.{now}
 use borrow.Author.Needs.{needs}
 use borrow.Author.Tests.{not-true, not-false}
-use Rattle.arena.specs.Records.{workerAt}
+use Rattle.words.specs.Records.{workerAt}
 use Rattle.linear.specs.History.{isDecision}
 use Rattle.schedule.specs.Book.{settles, withDecision}
 use Rattle.schedule.proofs.entries.enter_move.Statement.{statement}

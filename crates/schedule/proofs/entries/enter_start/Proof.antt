@@ -2,7 +2,7 @@
 use mathlib.Core.Path.{sym, ap, _∙_}
 use denote.Ref.{now}
 use borrow.Author.Needs.{needs}
-use Rattle.arena.specs.Replies.{verdictReply}
+use Rattle.words.specs.Replies.{verdictReply}
 use Rattle.schedule.specs.Book.{nextBook, nextCalls, nextWaits}
 use Rattle.schedule.proofs.BookLaws.{start-arena, after-refused-start, after-start}
 use Rattle.schedule.proofs.entries.enter_start.Statement.{statement}

@@ -7,8 +7,8 @@ use denote.Ref.{now}
 use borrow.Author.Needs.{needs}
 use Rattle.worker.specs.Node.{head}
 use Rattle.worker.specs.declared.Node.{Node}
-use Rattle.arena.specs.Records.{nodeAt}
-use Rattle.arena.proofs.HeaderLaws.{Header, header-holds}
+use Rattle.words.specs.Records.{nodeAt}
+use Rattle.words.proofs.HeaderLaws.{Header, header-holds}
 use Rattle.linear.specs.Sets.{nodeIn}
 use Rattle.schedule.proofs.Presence.{read-in, Ahead, begins, at-tail, rises, onward, found}
 use Rattle.schedule.proofs.present.is_present.Statement.{statement}

@@ -8,7 +8,7 @@ use lib.Dec.{ltb, leb}
 use borrow.Author.Needs.{needs}
 use borrow.Author.Tests.{lt-ltb, le-ltb, leb-true, leb-false, not-true, not-false}
 use Rattle.worker.specs.Refusals.{noRoom}
-use Rattle.arena.specs.Replies.{refused, accepted, replied}
+use Rattle.words.specs.Replies.{refused, accepted, replied}
 use Rattle.schedule.specs.Run.{runRefusals}
 use Rattle.schedule.proofs.EntryLaws.{turns-within}
 use Rattle.schedule.proofs.verdict.run_verdict.Statement.{statement}

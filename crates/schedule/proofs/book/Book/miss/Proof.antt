@@ -4,7 +4,7 @@ use mathlib.Core.Path.{_≡_, refl}
 use native.Mathlib.Omega.{arith}
 use native.Mathlib.Numerals.{add-one}
 use borrow.Author.Needs.{needs}
-use Rattle.arena.specs.Records.{workerAt}
+use Rattle.words.specs.Records.{workerAt}
 use Rattle.schedule.specs.Book.{withAbsent, missed}
 use Rattle.schedule.proofs.book.Book.miss.Statement.{statement}
 use Rattle.schedule.proofs.book.Book.miss.Tie as tie

@@ -1,0 +1,55 @@
+-- Worker and node records as words of an arena.
+use Prim.Native.Nat.{ℕ, _+_, _≤_, _<_}
+use mathlib.Core.Logic.{_⊎_}
+use mathlib.Core.List.{List, [], _∷_}
+use lib.Seq.{sets}
+use Rattle.worker.specs.declared.Node.{Node}
+use Rattle.worker.specs.declared.Worker.{Worker}
+use Rattle.words.specs.Layout.{word, workerStage, workerOperation, workerKey, workerPred, workerCurr, workerSpare, workerAnswer, workerReserved, nodeKey, nodeNext, nodeMark, nodeOwner, workerWidth, workerFrom, slot}
+
+-- worker record, 8 words: stage, operation, key, pred, curr, spare, answer, 0
+abbrev pub workerWords : Worker → List ℕ
+workerWords w =
+    w .stage ∷ w .operation ∷ w .key ∷ w .pred ∷ w .curr ∷ w .spare ∷ w .answer ∷ w .reserved ∷ []
+
+-- the record of a worker, read
+unfoldable pub workerAt : List ℕ → ℕ → Worker
+workerAt arena worker =
+    record {
+      stage = word arena (workerFrom worker + workerStage);
+      operation = word arena (workerFrom worker + workerOperation);
+      key = word arena (workerFrom worker + workerKey);
+      pred = word arena (workerFrom worker + workerPred);
+      curr = word arena (workerFrom worker + workerCurr);
+      spare = word arena (workerFrom worker + workerSpare);
+      answer = word arena (workerFrom worker + workerAnswer);
+      reserved = word arena (workerFrom worker + workerReserved);
+    }
+
+-- the arena with the record of a worker written
+unfoldable pub withWorker : List ℕ → ℕ → Worker → List ℕ
+withWorker arena worker w = sets arena (workerFrom worker) (workerWords w)
+
+-- a place outside the record of a worker: a start writes no such word (`RecordLaws.start-writes`)
+abbrev pub Outside : ℕ → ℕ → Type 0
+Outside worker at = (at < workerFrom worker) ⊎ (workerFrom worker + workerWidth ≤ at)
+
+-- node record, 4 words: key, next, mark, owner
+abbrev pub nodeWords : Node → List ℕ
+nodeWords n = n .key ∷ n .next ∷ n .mark ∷ n .owner ∷ []
+
+-- a node, read from the part of an arena that holds the node records, each of some width
+unfoldable pub nodeAt : ℕ → List ℕ → ℕ → Node
+nodeAt width nodes node =
+    record {
+      key = word nodes (slot width node nodeKey);
+      next = word nodes (slot width node nodeNext);
+      mark = word nodes (slot width node nodeMark);
+      owner = word nodes (slot width node nodeOwner);
+    }
+
+abbrev pub keyAt : ℕ → List ℕ → ℕ → ℕ
+keyAt width nodes node = nodeAt width nodes node .key
+
+abbrev pub nextAt : ℕ → List ℕ → ℕ → ℕ
+nextAt width nodes node = nodeAt width nodes node .next

@@ -1,0 +1,112 @@
+// The word layout: where the header's words and the records stand.
+ghost use mathlib.Core.Path.{_≡_};
+ghost use mathlib.Core.Bool.{true};
+ghost use Prim.Native.Nat.{_*_};
+ghost use Rattle.words.specs.Layout.{nodeWidth, workerFrom, slot, total, goodCounts, headerWords, layoutNumber};
+
+// Header words.
+pub const LAYOUT_AT: usize = 0;
+
+pub const WORKERS_AT: usize = 1;
+
+pub const NODES_AT: usize = 2;
+
+pub const NODES_FROM_AT: usize = 4;
+
+pub const TOTAL_AT: usize = 5;
+
+// Words of the header and of a worker record.
+pub const HEADER_WIDTH: usize = 8;
+
+pub const WORKER_WIDTH: usize = 8;
+
+// The one layout, and the words of its node records.
+pub const LAYOUT: u16 = 1;
+
+pub const NODE_WIDTH: u16 = 4;
+
+// Fields of a worker record.
+pub const WORKER_STAGE: u16 = 0;
+
+pub const WORKER_OPERATION: u16 = 1;
+
+pub const WORKER_KEY: u16 = 2;
+
+pub const WORKER_PRED: u16 = 3;
+
+pub const WORKER_CURR: u16 = 4;
+
+pub const WORKER_SPARE: u16 = 5;
+
+pub const WORKER_ANSWER: u16 = 6;
+
+pub const WORKER_RESERVED: u16 = 7;
+
+// Fields of a node record.
+pub const NODE_KEY: u16 = 0;
+
+pub const NODE_NEXT: u16 = 1;
+
+pub const NODE_MARK: u16 = 2;
+
+pub const NODE_OWNER: u16 = 3;
+
+// Words of a node record, by layout number; 0 where there is no such layout.
+pub fn node_width(layout: u16) -> u16
+    ensures { λ r. ⌜ r ≡ nodeWidth layout ⌝ }
+{
+    if layout == LAYOUT { NODE_WIDTH } else { 0 }
+}
+
+// Where a worker's record stands.
+pub fn worker_from(worker: u16) -> usize
+    ensures { λ r. ⌜ r ≡ workerFrom worker ⌝ }
+{
+    HEADER_WIDTH + WORKER_WIDTH * (worker as usize)
+}
+
+// Words of so many records.
+pub fn span(width: u16, count: u16) -> u32
+    ensures { λ r. ⌜ r ≡ width * count ⌝ }
+{
+    (width as u32) * (count as u32)
+}
+
+// Where a field of a node stands among the node records.
+pub fn slot(width: u16, node: u16, field: u16) -> usize
+    ensures { λ r. ⌜ r ≡ slot width node field ⌝ }
+{
+    (span(width, node) as usize) + (field as usize)
+}
+
+// Words of an arena.
+pub fn total(layout: u16, workers: u16, nodes: u16) -> usize
+    ensures { λ r. ⌜ r ≡ total layout workers nodes ⌝ }
+{
+    worker_from(workers) + (span(node_width(layout), nodes) as usize)
+}
+
+pub fn good_counts(workers: u16, nodes: u16) -> bool
+    ensures { λ r. ⌜ r ≡ goodCounts workers nodes ⌝ }
+{
+    ((1 <= workers) & (workers <= 8)) & ((3 <= nodes) & (nodes <= 1024))
+}
+
+// The header of an arena with these counts.
+pub fn header_words(workers: u16, nodes: u16) -> [u16; 8]
+    requires { ⌜ goodCounts workers nodes ≡ true ⌝ }
+    ensures { λ r. ⌜ r ≡ headerWords layoutNumber workers nodes ⌝ }
+{
+    let nodes_from = worker_from(workers);
+    let total = total(LAYOUT, workers, nodes);
+    [
+        LAYOUT,
+        workers,
+        nodes,
+        HEADER_WIDTH as u16,
+        nodes_from as u16,
+        total as u16,
+        0,
+        0,
+    ]
+}
