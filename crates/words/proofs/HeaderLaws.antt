@@ -10,7 +10,7 @@ use lib.ListN.{length, take}
 use lib.Seq.{getD-take, length-take-le, ext-getD}
 use lib.Dec.{eqb}
 use borrow.Author.Tests.{eqb-true, eq-eqb, ltb-false, not-false}
-use Rattle.words.specs.Layout.{word, headerWidth, layoutNumber, nodesFrom, total, goodCounts, headerWords, layoutOf, workersOf, nodesOf, nodesFromOf, totalOf}
+use Rattle.words.specs.Layout.{word, headerWidth, nodesFrom, total, goodCounts, headerWords, layoutOf, workersOf, nodesOf, nodesFromOf, totalOf}
 use Rattle.words.specs.Replies.{accepted, replied}
 use Rattle.words.specs.Header.{agrees, isHeader, HeaderOfSome, headerRefusals}
 use Rattle.words.proofs.Bounds.{Counts, counts}
@@ -37,8 +37,7 @@ agrees-all words (v ∷ vs) at same =
 pub record Header (arena : List ℕ) : Type 0 where
   pub long : headerWidth ≤ length arena
   pub whole : totalOf arena ≤ length arena
-  pub layout : layoutOf arena ≡ layoutNumber
-  pub good : Counts (workersOf arena) (nodesOf arena)
+  pub good : Counts (layoutOf arena) (workersOf arena) (nodesOf arena)
   pub from : nodesFromOf arena ≡ nodesFrom (workersOf arena)
   pub end : totalOf arena ≡ total (layoutOf arena) (workersOf arena) (nodesOf arena)
 
@@ -52,12 +51,10 @@ header-holds arena e =
     let none = none-holds (headerRefusals arena) [] e in
     let short = or-false _ _ (none .0) in
     let all = and-eq-true-iff _ _ .0 (not-false _ (none .1 .0)) in
-    let counted = and-eq-true-iff _ _ .0 (all .0) in
     record {
       long = ltb-false _ _ (short .0);
       whole = ltb-false _ _ (short .1);
-      layout = eqb-true _ _ (counted .0);
-      good = counts (workersOf arena) (nodesOf arena) (counted .1);
+      good = counts (layoutOf arena) (workersOf arena) (nodesOf arena) (all .0);
       from = agrees-at arena (headerWords (layoutOf arena) (workersOf arena) (nodesOf arena)) 0 4 (all .1) (omega arith);
       end = agrees-at arena (headerWords (layoutOf arena) (workersOf arena) (nodesOf arena)) 0 5 (all .1) (omega arith);
     }
@@ -73,23 +70,21 @@ header-of-some arena h = (forth, back)
     forth : isHeader arena ≡ true → HeaderOfSome arena
     forth e =
         let all = and-eq-true-iff _ _ .0 e in
-        let counted = and-eq-true-iff _ _ .0 (all .0) in
         let each : (k : ℕ) → k < 8 → word (take headerWidth arena) k ≡ word own k
         = λ k l. getD-take headerWidth arena k 0 l ∙ rw zero-add at (agrees-at arena own 0 k (all .1) l) in
         let long : length (take headerWidth arena) ≡ 8 = length-take-le headerWidth arena h in
         let same : take headerWidth arena ≡ own = ext-getD 0 (take headerWidth arena) own long (λ k l. each k (omega arith)) in
-        (workersOf arena, nodesOf arena, counted .1, rw (eqb-true (layoutOf arena) layoutNumber (counted .0)) at same)
+        (layoutOf arena, workersOf arena, nodesOf arena, all .0, same)
 
     back : HeaderOfSome arena → isHeader arena ≡ true
     back p =
-        let each : (k : ℕ) → k < 8 → word arena k ≡ word (headerWords layoutNumber (p .0) (p .1)) k
-        = λ k l. sym (getD-take headerWidth arena k 0 l) ∙ ap (λ (words : List ℕ). word words k) (p .3) in
-        let layout : layoutOf arena ≡ layoutNumber = each 0 (omega arith) in
-        let workers : workersOf arena ≡ p .0 = each 1 (omega arith) in
-        let nodes : nodesOf arena ≡ p .1 = each 2 (omega arith) in
-        let same : headerWords layoutNumber (p .0) (p .1) ≡ own = λ i. headerWords (sym layout i) (sym workers i) (sym nodes i) in
-        let good : goodCounts (workersOf arena) (nodesOf arena) ≡ true = (λ i. goodCounts (workers i) (nodes i)) ∙ p .2 in
+        let each : (k : ℕ) → k < 8 → word arena k ≡ word (headerWords (p .0) (p .1) (p .2)) k
+        = λ k l. sym (getD-take headerWidth arena k 0 l) ∙ ap (λ (words : List ℕ). word words k) (p .4) in
+        let layout : layoutOf arena ≡ p .0 = each 0 (omega arith) in
+        let workers : workersOf arena ≡ p .1 = each 1 (omega arith) in
+        let nodes : nodesOf arena ≡ p .2 = each 2 (omega arith) in
+        let same : headerWords (p .0) (p .1) (p .2) ≡ own = λ i. headerWords (sym layout i) (sym workers i) (sym nodes i) in
         and-eq-true-iff _ _ .1 (
-          and-eq-true-iff _ _ .1 (eq-eqb _ _ layout, good),
+          (λ i. goodCounts (layout i) (workers i) (nodes i)) ∙ p .3,
           agrees-all arena own 0 (λ k l. rw zero-add (each k l ∙ ap (λ (words : List ℕ). word words k) same)),
         )

@@ -5,7 +5,7 @@ use mathlib.Core.List.{List, [], _∷_}
 use mathlib.Core.Bool.{Bool, true, not, _&&_, _||_}
 use lib.ListN.{length, take}
 use lib.Dec.{ltb, eqb}
-use Rattle.words.specs.Layout.{word, headerWidth, layoutNumber, goodCounts, headerWords, layoutOf, workersOf, nodesOf, totalOf}
+use Rattle.words.specs.Layout.{word, headerWidth, goodCounts, headerWords, layoutOf, workersOf, nodesOf, totalOf}
 use Rattle.worker.specs.Refusals.{Refusal, shortArena, oddHeader}
 
 -- the words from a place on are these
@@ -16,17 +16,17 @@ agrees words at (v ∷ vs) = eqb (word words at) v && agrees words (suc at) vs
 -- the header test: the 8 words are the header of the counts that stand in them
 unfoldable pub isHeader : List ℕ → Bool
 isHeader arena =
-    eqb (layoutOf arena) layoutNumber
-    && goodCounts (workersOf arena) (nodesOf arena)
+    goodCounts (layoutOf arena) (workersOf arena) (nodesOf arena)
     && agrees arena 0 (headerWords (layoutOf arena) (workersOf arena) (nodesOf arena))
 
--- document 01's words for it: the 8 words are the header of some W and N (`HeaderLaws.header-of-some`)
+-- document 01's words for it: the 8 words are the header of some layout, W and N (`HeaderLaws.header-of-some`)
 abbrev pub HeaderOfSome : List ℕ → Type 0
 HeaderOfSome arena =
-    (workers : ℕ)
+    (layout : ℕ)
+    × (workers : ℕ)
     × (nodes : ℕ)
-    × (goodCounts workers nodes ≡ true)
-    × (take headerWidth arena ≡ headerWords layoutNumber workers nodes)
+    × (goodCounts layout workers nodes ≡ true)
+    × (take headerWidth arena ≡ headerWords layout workers nodes)
 
 -- fewer than 8 words, or than word 5 says: 1; an odd header: 2
 unfoldable pub headerRefusals : List ℕ → List Refusal

@@ -3,7 +3,7 @@ use Prim.Native.Nat.{ℕ, _+_, _*_, _-_}
 use mathlib.Core.List.{List, [], _∷_}
 use mathlib.Core.Bool.{Bool, cond, _&&_}
 use lib.ListN.{getD, take, drop}
-use lib.Dec.{eqb}
+use lib.Dec.{ltb, eqb}
 use Rattle.worker.specs.Worker.{within}
 
 -- the word at a place, counted from 0; past the end there are zeros
@@ -17,15 +17,18 @@ headerWidth = 8
 abbrev pub workerWidth : ℕ
 workerWidth = 8
 
--- the number of the one layout there is
-abbrev pub layoutNumber : ℕ
-layoutNumber = 1
+-- layouts: 1, and 2, in which a node has a length (document 02, A2)
+abbrev pub layout1 : ℕ
+layout1 = 1
 
--- words of a node record, by layout number: 4 in layout 1, and 0 where there is no such layout
+abbrev pub layout2 : ℕ
+layout2 = 2
+
+-- words of a node record, by layout number: 4 in layout 1, 5 in layout 2, and 0 where there is no such layout
 unfoldable pub nodeWidth : ℕ → ℕ
-nodeWidth layout = cond (eqb layout layoutNumber) 4 0
+nodeWidth layout = cond (eqb layout layout1) 4 (cond (eqb layout layout2) 5 0)
 
--- fields of a worker record: stage, operation, key, pred, curr, spare, answer, and a word that is 0
+-- fields of a worker record: stage, operation, key, pred, curr, spare, answer, length
 abbrev pub workerStage : ℕ
 workerStage = 0
 
@@ -47,10 +50,10 @@ workerSpare = 5
 abbrev pub workerAnswer : ℕ
 workerAnswer = 6
 
-abbrev pub workerReserved : ℕ
-workerReserved = 7
+abbrev pub workerLength : ℕ
+workerLength = 7
 
--- fields of a node record: key, next, mark, owner
+-- fields of a node record: key, next, mark, owner, and in layout 2 length
 abbrev pub nodeKey : ℕ
 nodeKey = 0
 
@@ -63,6 +66,13 @@ nodeMark = 2
 abbrev pub nodeOwner : ℕ
 nodeOwner = 3
 
+abbrev pub nodeLength : ℕ
+nodeLength = 4
+
+-- records of so many words have one for the length
+abbrev pub hasLength : ℕ → Bool
+hasLength width = ltb nodeLength width
+
 -- where the record of a worker stands
 abbrev pub workerFrom : ℕ → ℕ
 workerFrom worker = headerWidth + workerWidth * worker
@@ -71,16 +81,16 @@ workerFrom worker = headerWidth + workerWidth * worker
 abbrev pub slot : ℕ → ℕ → ℕ → ℕ
 slot width node field = width * node + field
 
--- offset of the node records (8 + 8W), and total (8 + 8W + 4N)
+-- offset of the node records (8 + 8W), and total (8 + 8W + 4N; in layout 2 8 + 8W + 5N)
 abbrev pub nodesFrom : ℕ → ℕ
 nodesFrom workers = workerFrom workers
 
 abbrev pub total : ℕ → ℕ → ℕ → ℕ
 total layout workers nodes = nodesFrom workers + nodeWidth layout * nodes
 
--- W is 1 to 8 and N is 3 to 1,024
-abbrev pub goodCounts : ℕ → ℕ → Bool
-goodCounts workers nodes = within 1 8 workers && within 3 1024 nodes
+-- the layout is 1 or 2, W is 1 to 8 and N is 3 to 1,024
+abbrev pub goodCounts : ℕ → ℕ → ℕ → Bool
+goodCounts layout workers nodes = within layout1 layout2 layout && within 1 8 workers && within 3 1024 nodes
 
 -- the header: layout, W, N, offset of the worker records (8), offset of the node records, total, 0, 0
 unfoldable pub headerWords : ℕ → ℕ → ℕ → List ℕ

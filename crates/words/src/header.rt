@@ -27,14 +27,12 @@ pub fn header_verdict(arena: &[u16]) -> Verdict
 fn is_header(arena: &[u16]) -> bool
     ensures { λ r. ⌜ r ≡ isHeader (now (arena .entry)) ⌝ }
 {
+    let layout = word(arena, layout::LAYOUT_AT);
     let workers = word(arena, layout::WORKERS_AT);
     let nodes = word(arena, layout::NODES_AT);
-    if word(arena, layout::LAYOUT_AT) != layout::LAYOUT {
+    if !layout::good_counts(layout, workers, nodes) {
         return false;
     }
-    if !layout::good_counts(workers, nodes) {
-        return false;
-    }
-    let words = layout::header_words(workers, nodes);
+    let words = layout::header_words(layout, workers, nodes);
     agree(arena, &words)
 }

@@ -2,7 +2,7 @@
 ghost use mathlib.Core.Path.{_≡_};
 ghost use mathlib.Core.Bool.{true};
 ghost use Prim.Native.Nat.{_*_};
-ghost use Rattle.words.specs.Layout.{nodeWidth, workerFrom, slot, total, goodCounts, headerWords, layoutNumber};
+ghost use Rattle.words.specs.Layout.{nodeWidth, hasLength, workerFrom, slot, total, goodCounts, headerWords};
 
 // Header words.
 pub const LAYOUT_AT: usize = 0;
@@ -20,10 +20,10 @@ pub const HEADER_WIDTH: usize = 8;
 
 pub const WORKER_WIDTH: usize = 8;
 
-// The one layout, and the words of its node records.
-pub const LAYOUT: u16 = 1;
+// The layouts; in layout 2 a node has a length.
+pub const LAYOUT_1: u16 = 1;
 
-pub const NODE_WIDTH: u16 = 4;
+pub const LAYOUT_2: u16 = 2;
 
 // Fields of a worker record.
 pub const WORKER_STAGE: u16 = 0;
@@ -40,7 +40,7 @@ pub const WORKER_SPARE: u16 = 5;
 
 pub const WORKER_ANSWER: u16 = 6;
 
-pub const WORKER_RESERVED: u16 = 7;
+pub const WORKER_LENGTH: u16 = 7;
 
 // Fields of a node record.
 pub const NODE_KEY: u16 = 0;
@@ -51,11 +51,24 @@ pub const NODE_MARK: u16 = 2;
 
 pub const NODE_OWNER: u16 = 3;
 
+pub const NODE_LENGTH: u16 = 4;
+
 // Words of a node record, by layout number; 0 where there is no such layout.
 pub fn node_width(layout: u16) -> u16
     ensures { λ r. ⌜ r ≡ nodeWidth layout ⌝ }
 {
-    if layout == LAYOUT { NODE_WIDTH } else { 0 }
+    match layout {
+        LAYOUT_1 => 4,
+        LAYOUT_2 => 5,
+        _ => 0,
+    }
+}
+
+// Whether records of so many words have one for the length.
+pub fn has_length(width: u16) -> bool
+    ensures { λ r. ⌜ r ≡ hasLength width ⌝ }
+{
+    NODE_LENGTH < width
 }
 
 // Where a worker's record stands.
@@ -86,26 +99,26 @@ pub fn total(layout: u16, workers: u16, nodes: u16) -> usize
     worker_from(workers) + (span(node_width(layout), nodes) as usize)
 }
 
-pub fn good_counts(workers: u16, nodes: u16) -> bool
-    ensures { λ r. ⌜ r ≡ goodCounts workers nodes ⌝ }
+pub fn good_counts(layout: u16, workers: u16, nodes: u16) -> bool
+    ensures { λ r. ⌜ r ≡ goodCounts layout workers nodes ⌝ }
 {
-    ((1 <= workers) & (workers <= 8)) & ((3 <= nodes) & (nodes <= 1024))
+    ((LAYOUT_1 <= layout) & (layout <= LAYOUT_2)) & ((1 <= workers) & (workers <= 8))
+        & ((3 <= nodes) & (nodes <= 1024))
 }
 
-// The header of an arena with these counts.
-pub fn header_words(workers: u16, nodes: u16) -> [u16; 8]
-    requires { ⌜ goodCounts workers nodes ≡ true ⌝ }
-    ensures { λ r. ⌜ r ≡ headerWords layoutNumber workers nodes ⌝ }
+// The header of an arena with these counts. Where they are good, its numbers are words.
+pub fn header_words(layout: u16, workers: u16, nodes: u16) -> [u16; 8]
+    ensures { λ r. ⌜ (goodCounts layout workers nodes ≡ true → r ≡ headerWords layout workers nodes) ⌝ }
 {
     let nodes_from = worker_from(workers);
-    let total = total(LAYOUT, workers, nodes);
+    let total = total(layout, workers, nodes);
     [
-        LAYOUT,
+        layout,
         workers,
         nodes,
         HEADER_WIDTH as u16,
-        nodes_from as u16,
-        total as u16,
+        (nodes_from % 65536) as u16,
+        (total % 65536) as u16,
         0,
         0,
     ]

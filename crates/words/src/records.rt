@@ -2,8 +2,7 @@
 ghost use Prim.Native.Nat.{_+_};
 ghost use mathlib.Core.Path.{_≡_};
 ghost use lib.ListN.{set};
-ghost use lib.Seq.{sets};
-ghost use Rattle.words.specs.Records.{workerWords, workerAt, withWorker, nodeWords, nodeAt};
+ghost use Rattle.words.specs.Records.{workerWords, workerAt, withWorker, withNode, nodeAt};
 ghost use Rattle.words.specs.Layout.{word, workerFrom, slot, nodeFrom};
 use crate::layout;
 use crate::put;
@@ -23,7 +22,7 @@ pub fn worker_words(worker: Worker) -> [u16; 8]
         worker.curr,
         worker.spare,
         worker.answer,
-        worker.reserved,
+        worker.length,
     ]
 }
 
@@ -45,7 +44,7 @@ pub fn read_worker(arena: &[u16], number: u16) -> Worker
         curr: worker_field(arena, number, layout::WORKER_CURR),
         spare: worker_field(arena, number, layout::WORKER_SPARE),
         answer: worker_field(arena, number, layout::WORKER_ANSWER),
-        reserved: worker_field(arena, number, layout::WORKER_RESERVED),
+        length: worker_field(arena, number, layout::WORKER_LENGTH),
     }
 }
 
@@ -56,19 +55,6 @@ pub fn write_worker(arena: &mut [u16], number: u16, worker: Worker)
     write(arena, layout::worker_from(number), &words);
 }
 
-fn node_words(node: Node) -> [u16; 4]
-    ensures { λ r. ⌜ r ≡ nodeWords node ⌝ }
-{
-    [node.key, node.next, node.mark, node.owner]
-}
-
-// A node, where its words begin.
-pub fn write_node(words: &mut [u16], at: usize, node: Node)
-    ensures { λ _. ⌜ now (words .exit) ≡ sets (now (words .entry)) at (nodeWords node) ⌝ }
-{
-    let values = node_words(node);
-    write(words, at, &values);
-}
 
 // Where a field of a node stands in an arena.
 pub fn node_from(arena: &[u16], node: u16, field: u16) -> usize
@@ -86,6 +72,16 @@ pub fn write_node_field(arena: &mut [u16], node: u16, field: u16, value: u16)
     put(arena, at, value);
 }
 
+// A node in an arena: as many of its fields as there are words for them.
+pub fn write_node(arena: &mut [u16], number: u16, node: Node)
+    ensures { λ _. ⌜ now (arena .exit) ≡ withNode (now (arena .entry)) number node ⌝ }
+{
+    let at = node_from(arena, number, layout::NODE_KEY);
+    let width = layout::node_width(word(arena, layout::LAYOUT_AT)) as usize;
+    let values = [node.key, node.next, node.mark, node.owner, node.length];
+    write(arena, at, &values[..width]);
+}
+
 // A field of a node, of the arena's part that holds the node records.
 pub fn node_field(nodes: &[u16], width: u16, node: u16, field: u16) -> u16
     ensures { λ r. ⌜ r ≡ word (now (nodes .entry)) (slot width node field) ⌝ }
@@ -93,7 +89,18 @@ pub fn node_field(nodes: &[u16], width: u16, node: u16, field: u16) -> u16
     word(nodes, layout::slot(width, node, field))
 }
 
-// One test serves a node that lies inside whole.
+// A length that has no word is 0.
+fn node_length(nodes: &[u16], width: u16, node: u16) -> u16
+    ensures { λ r. ⌜ r ≡ nodeAt width (now (nodes .entry)) node .length ⌝ }
+{
+    if layout::has_length(width) {
+        node_field(nodes, width, node, layout::NODE_LENGTH)
+    } else {
+        0
+    }
+}
+
+// One test serves a node that lies inside whole, but for its length, which few callers want.
 pub fn read_node(nodes: &[u16], width: u16, node: u16) -> Node
     ensures { λ r. ⌜ r ≡ nodeAt width (now (nodes .entry)) node ⌝ }
 {
@@ -103,6 +110,7 @@ pub fn read_node(nodes: &[u16], width: u16, node: u16) -> Node
             next: nodes[layout::slot(width, node, layout::NODE_NEXT)],
             mark: nodes[layout::slot(width, node, layout::NODE_MARK)],
             owner: nodes[layout::slot(width, node, layout::NODE_OWNER)],
+            length: node_length(nodes, width, node),
         };
     }
     Node {
@@ -110,5 +118,6 @@ pub fn read_node(nodes: &[u16], width: u16, node: u16) -> Node
         next: node_field(nodes, width, node, layout::NODE_NEXT),
         mark: node_field(nodes, width, node, layout::NODE_MARK),
         owner: node_field(nodes, width, node, layout::NODE_OWNER),
+        length: node_length(nodes, width, node),
     }
 }

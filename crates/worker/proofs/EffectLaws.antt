@@ -30,7 +30,7 @@ EffectBelow count Nothing = Unit {0}
 EffectBelow count (SetOwner node owner) = node < count
 EffectBelow count (SetNext node next) = node < count
 EffectBelow count (SetMark node) = node < count
-EffectBelow count (Fill node key next) = node < count
+EffectBelow count (Fill node key next length) = node < count
 
 -- and so is a free node that was found
 abbrev pub FreeBelow : ℕ → Free → Type 0

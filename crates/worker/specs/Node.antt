@@ -1,4 +1,4 @@
--- The node record (document 01: key, next, mark, owner) and the three nodes that a fresh arena is made of.
+-- The node record (document 01: key, next, mark, owner; document 02, A2: length) and the three nodes that a fresh arena is made of.
 use Prim.Native.Nat.{ℕ}
 use Rattle.worker.specs.declared.Node.{Node}
 
@@ -13,16 +13,16 @@ abbrev pub noNode : ℕ
 noNode = 65535
 
 -- a node that nobody has marked or owns
-abbrev pub newNode : ℕ → ℕ → Node
-newNode key next = record { key = key; next = next; mark = 0; owner = 0 }
+abbrev pub newNode : ℕ → ℕ → ℕ → Node
+newNode key next length = record { key = key; next = next; mark = 0; owner = 0; length = length }
 
--- Head's key is 0 and its next 1, Tail's key 65,535 and its next 1
+-- Head's key is 0 and its next 1, Tail's key 65,535 and its next 1; every length is 0
 abbrev pub headNode : Node
-headNode = newNode 0 tail
+headNode = newNode 0 tail 0
 
 abbrev pub tailNode : Node
-tailNode = newNode 65535 tail
+tailNode = newNode 65535 tail 0
 
--- all other nodes of a fresh arena: four zeros
+-- all other nodes of a fresh arena: zeros
 abbrev pub unusedNode : Node
-unusedNode = newNode 0 0
+unusedNode = newNode 0 0 0

@@ -29,7 +29,7 @@ changed w stage pred curr spare answer =
       curr = curr;
       spare = spare;
       answer = answer;
-      reserved = w .reserved;
+      length = w .length;
     }
 
 abbrev pub withStage : Worker → ℕ → Worker
@@ -76,10 +76,10 @@ denies w stage = to (withAnswer w (answerNumber No)) stage
 abbrev pub decides : Worker → Bool → Step
 decides w found = cond (eqb (w .operation) add) (cond found (denies w 19) (to w 14)) (cond found (to w 16) (denies w 19))
 
--- 14: no free node: answer full, to 19; else spare := that node, written as e, curr, 0, 0; to 15
+-- 14: no free node: answer full, to 19; else spare := that node, written as e, curr, 0, 0 and the length of the add; to 15
 abbrev pub takes : Worker → Free → Step
 takes w free.None = to (withAnswer w (answerNumber Full)) 19
-takes w (free.Node node) = goes (withSpare w node) 15 (Fill node (w .key) (w .curr))
+takes w (free.Node node) = goes (withSpare w node) 15 (Fill node (w .key) (w .curr) (w .length))
 
 -- 23: key of curr below e: to 24; equal: to 25; above: answer no, to 21
 abbrev pub compares : Worker → ℕ → Step

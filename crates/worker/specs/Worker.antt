@@ -1,5 +1,5 @@
--- The worker record (document 01: stage, operation, key, pred, curr, spare, answer, 0), idle and started.
-use Prim.Native.Nat.{ℕ}
+-- The worker record (document 01: stage, operation, key, pred, curr, spare, answer; document 02, A2: length), idle and started.
+use Prim.Native.Nat.{ℕ, _+_}
 use mathlib.Core.List.{List, [], _∷_}
 use mathlib.Core.Bool.{Bool, false, cond, _&&_, _||_}
 use lib.Dec.{leb, eqb}
@@ -36,13 +36,21 @@ among (m ∷ ms) n = eqb m n || among ms n
 abbrev pub isKey : ℕ → Bool
 isKey key = within 1 65534 key
 
--- a call: operation 1 to 3, and a key of calls
-abbrev pub isCall : ℕ → ℕ → Bool
-isCall operation key = within add contains operation && isKey key
+-- the length of a label (document 02, A2): 1 to 65,534, and key plus length at most 65,535
+abbrev pub isLength : ℕ → ℕ → Bool
+isLength key length = within 1 65534 length && leb (key + length) 65535
 
--- a record that has met no node yet: stage, operation, key, none three times, 0, 0
-abbrev pub newWorker : ℕ → ℕ → ℕ → Worker
-newWorker stage operation key =
+-- what a start carries: an add a length, where nodes have one; every other start 0
+abbrev pub carries : Bool → ℕ → ℕ → ℕ → Bool
+carries lengths operation key length = cond (lengths && eqb operation add) (isLength key length) (eqb length 0)
+
+-- a call: operation 1 to 3, a key of calls, and what its start carries
+abbrev pub isCall : Bool → ℕ → ℕ → ℕ → Bool
+isCall lengths operation key length = within add contains operation && isKey key && carries lengths operation key length
+
+-- a record that has met no node yet: stage, operation, key, none three times, 0, length
+abbrev pub newWorker : ℕ → ℕ → ℕ → ℕ → Worker
+newWorker stage operation key length =
     record {
       stage = stage;
       operation = operation;
@@ -51,17 +59,17 @@ newWorker stage operation key =
       curr = noNode;
       spare = noNode;
       answer = 0;
-      reserved = 0;
+      length = length;
     }
 
 -- idle: 0, 0, 0, three times 65,535, 0, 0
 abbrev pub idleWorker : Worker
-idleWorker = newWorker idleStage 0 0
+idleWorker = newWorker idleStage 0 0 0
 
 -- where a call begins: stage 1 (add, remove) or 22 (contains)
 abbrev pub firstStage : ℕ → ℕ
 firstStage operation = cond (eqb operation contains) 22 1
 
--- a start writes: its first stage, operation, key, none three times, 0, 0
-abbrev pub startedWorker : ℕ → ℕ → Worker
-startedWorker operation key = newWorker (firstStage operation) operation key
+-- a start writes: its first stage, operation, key, none three times, 0, length
+abbrev pub startedWorker : ℕ → ℕ → ℕ → Worker
+startedWorker operation key length = newWorker (firstStage operation) operation key length

@@ -1,7 +1,7 @@
 // A worker of the lazy list as a value: the records of nodes and workers, and a worker's turn. Nothing here knows of an arena's words.
 ghost use mathlib.Core.Path.{_≡_};
 ghost use Rattle.worker.specs.Node.{newNode, headNode, tailNode, unusedNode};
-ghost use Rattle.worker.specs.Worker.{within, isKey, isCall, newWorker, idleWorker, firstStage, startedWorker};
+ghost use Rattle.worker.specs.Worker.{within, isKey, isLength, carries, isCall, newWorker, idleWorker, firstStage, startedWorker};
 
 pub mod refusal;
 mod report;
@@ -16,7 +16,7 @@ pub use report::Seen;
 pub use report::Step;
 pub use report::Turned;
 
-// Document 01's node record.
+// Document 01's node record, and document 02's length.
 pub struct Node {
     pub key: u16,
     pub next: u16,
@@ -24,6 +24,8 @@ pub struct Node {
     pub mark: u16,
     // 0 nobody, otherwise the worker's number + 1
     pub owner: u16,
+    // of the label, in cells; 0 where nodes have no word for it
+    pub length: u16,
 }
 
 impl Node {
@@ -40,37 +42,38 @@ impl Node {
     pub const TAIL_KEY: u16 = 65535;
 
     // A node that nobody has marked or owns.
-    pub fn new(key: u16, next: u16) -> Self
-        ensures { λ r. ⌜ r ≡ newNode key next ⌝ }
+    pub fn new(key: u16, next: u16, length: u16) -> Self
+        ensures { λ r. ⌜ r ≡ newNode key next length ⌝ }
     {
         Node {
             key,
             next,
             mark: 0,
             owner: 0,
+            length,
         }
     }
 
     pub fn head() -> Self
         ensures { λ r. ⌜ r ≡ headNode ⌝ }
     {
-        Self::new(Self::HEAD_KEY, Self::TAIL)
+        Self::new(Self::HEAD_KEY, Self::TAIL, 0)
     }
 
     pub fn tail() -> Self
         ensures { λ r. ⌜ r ≡ tailNode ⌝ }
     {
-        Self::new(Self::TAIL_KEY, Self::TAIL)
+        Self::new(Self::TAIL_KEY, Self::TAIL, 0)
     }
 
     pub fn unused() -> Self
         ensures { λ r. ⌜ r ≡ unusedNode ⌝ }
     {
-        Self::new(0, 0)
+        Self::new(0, 0, 0)
     }
 }
 
-// Document 01's worker record.
+// Document 01's worker record, and document 02's length.
 pub struct Worker {
     pub stage: u16,
     pub operation: u16,
@@ -79,7 +82,8 @@ pub struct Worker {
     pub curr: u16,
     pub spare: u16,
     pub answer: u16,
-    pub reserved: u16,
+    // that an open add carries, else 0
+    pub length: u16,
 }
 
 impl Worker {
@@ -102,8 +106,8 @@ impl Worker {
     pub const LAST_STAGE: u16 = 25;
 
     // A worker that has met no node yet.
-    fn new(stage: u16, operation: u16, key: u16) -> Self
-        ensures { λ r. ⌜ r ≡ newWorker stage operation key ⌝ }
+    fn new(stage: u16, operation: u16, key: u16, length: u16) -> Self
+        ensures { λ r. ⌜ r ≡ newWorker stage operation key length ⌝ }
     {
         Worker {
             stage,
@@ -113,21 +117,21 @@ impl Worker {
             curr: Node::NONE,
             spare: Node::NONE,
             answer: 0,
-            reserved: 0,
+            length,
         }
     }
 
     pub fn idle() -> Self
         ensures { λ r. ⌜ r ≡ idleWorker ⌝ }
     {
-        Self::new(Self::IDLE_STAGE, 0, 0)
+        Self::new(Self::IDLE_STAGE, 0, 0, 0)
     }
 
     // A worker at the beginning of a call.
-    pub fn started(operation: u16, key: u16) -> Self
-        ensures { λ r. ⌜ r ≡ startedWorker operation key ⌝ }
+    pub fn started(operation: u16, key: u16, length: u16) -> Self
+        ensures { λ r. ⌜ r ≡ startedWorker operation key length ⌝ }
     {
-        Self::new(first_stage(operation), operation, key)
+        Self::new(first_stage(operation), operation, key, length)
     }
 }
 
@@ -141,11 +145,28 @@ fn first_stage(operation: u16) -> u16
     }
 }
 
-// An operation that there is, on a key that a call may have.
-pub fn is_call(operation: u16, key: u16) -> bool
-    ensures { λ r. ⌜ r ≡ isCall operation key ⌝ }
+// An operation that there is, on a key that a call may have, and a length that its start may carry. `lengths`: nodes have one.
+pub fn is_call(lengths: bool, operation: u16, key: u16, length: u16) -> bool
+    ensures { λ r. ⌜ r ≡ isCall lengths operation key length ⌝ }
 {
     is_within(operation, Worker::ADD, Worker::CONTAINS) & is_key(key)
+        & carries(lengths, operation, key, length)
+}
+
+fn carries(lengths: bool, operation: u16, key: u16, length: u16) -> bool
+    ensures { λ r. ⌜ r ≡ carries lengths operation key length ⌝ }
+{
+    if lengths & (operation == Worker::ADD) {
+        is_length(key, length)
+    } else {
+        length == 0
+    }
+}
+
+fn is_length(key: u16, length: u16) -> bool
+    ensures { λ r. ⌜ r ≡ isLength key length ⌝ }
+{
+    is_within(length, 1, 65534) & ((key as u32) + (length as u32) <= 65535)
 }
 
 pub(crate) fn is_key(key: u16) -> bool

@@ -43,8 +43,8 @@ pub enum Effect {
     SetNext(u16, u16),
     // of a node: its mark, to 1
     SetMark(u16),
-    // of a node: its key and next; its mark and owner to 0
-    Fill(u16, u16, u16),
+    // of a node: its key, next and length; its mark and owner to 0
+    Fill(u16, u16, u16, u16),
 }
 
 // An accepted turn.

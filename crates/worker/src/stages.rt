@@ -63,7 +63,7 @@ impl Worker {
             curr,
             spare,
             answer,
-            reserved: self.reserved,
+            length: self.length,
         }
     }
 
@@ -166,7 +166,7 @@ impl Worker {
             Free::None => self.with_answer(Answer::FULL).to(19),
             Free::Node(node) => {
                 self.with_spare(node)
-                    .goes(15, Effect::Fill(node, self.key, self.curr))
+                    .goes(15, Effect::Fill(node, self.key, self.curr, self.length))
             }
         }
     }

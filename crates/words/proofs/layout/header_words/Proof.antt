@@ -1,25 +1,23 @@
 -- Good counts keep the offsets within a word.
+use Prim.Native.Nat.{_%_}
+use mathlib.Core.Path.{_≡_}
 use native.Mathlib.Omega.{arith}
 use borrow.Author.Needs.{needs}
-use Rattle.words.specs.Layout.{headerWords}
-use Rattle.words.proofs.Bounds.{Counts, counts, total-fits}
+use Rattle.words.specs.Layout.{headerWords, workerFrom, total}
+use Rattle.words.proofs.Bounds.{counts, total-fits}
 use Rattle.words.proofs.layout.header_words.Statement.{statement}
 use Rattle.words.proofs.layout.header_words.Tie as tie
 
-fits : (c : tie.After-total) → Counts (c .before .before .args .workers) (c .before .before .args .nodes)
-fits c = counts (c .before .before .args .workers) (c .before .before .args .nodes) (c .before .before .pre)
-
-nodes-from-fits : tie.Need-cast-t6
-nodes-from-fits c = omega (arith, fits c, c .before .worker-from .ensures)
-
-total-in-word : tie.Need-cast-t7
-total-in-word c =
-    omega (arith, c .total .ensures, total-fits (c .before .before .args .workers) (c .before .before .args .nodes) (fits c))
-
 returns : tie.Need-returns
 unfolding headerWords
-returns c = rw (c .total .ensures, c .before .worker-from .ensures)
+returns c good =
+    let args = c .before .before .args in
+    let known = counts (args .layout) (args .workers) (args .nodes) good in
+    let nodes-from : workerFrom (args .workers) % 65536 ≡ workerFrom (args .workers) = omega (arith, known) in
+    let whole : total (args .layout) (args .workers) (args .nodes) % 65536 ≡ total (args .layout) (args .workers) (args .nodes)
+    = omega (arith, total-fits (args .layout) (args .workers) (args .nodes) known) in
+    rw (c .total .ensures, c .before .worker-from .ensures, nodes-from, whole)
 
 pub header-words-spec : {M : Type 1} → statement M
 header-words-spec =
-    tie.close (tie.spec (search needs) (search needs) (search needs) nodes-from-fits total-in-word returns)
+    tie.close (tie.spec (search needs) (search needs) (search needs) (search needs) (search needs) returns)

@@ -1,16 +1,20 @@
--- The test decides the definition's choice.
-use borrow.Author.Tests.{eq-eqb, ne-eqb}
+-- Layout 1, layout 2, and any other number.
+use borrow.Author.Tests.{ne-eqb}
 use Rattle.words.specs.Layout.{nodeWidth}
 use Rattle.words.proofs.layout.node_width.Statement.{statement}
 use Rattle.words.proofs.layout.node_width.Tie as tie
 
-returns : tie.Need-returns
+four : tie.Need-returns
 unfolding nodeWidth
-returns c = rw (eq-eqb _ _ (c .if1 .taken))
+four c = rw (c .match .keys1)
 
-returns-2 : tie.Need-returns-2
+five : tie.Need-returns-2
 unfolding nodeWidth
-returns-2 c = rw (ne-eqb _ _ (c .if1 .left))
+five c = rw (c .match .keys2)
+
+none : tie.Need-returns-3
+unfolding nodeWidth
+none c = rw (ne-eqb _ _ (c .match .rest .0 .1), ne-eqb _ _ (c .match .rest .1))
 
 pub node-width-spec : {M : Type 1} → statement M
-node-width-spec = tie.close (tie.spec returns returns-2)
+node-width-spec = tie.close (tie.spec four five none)
