@@ -22,42 +22,42 @@ pub enum Listing {
     Refused(u16),
 }
 
-// Lays a fresh arena (document 01: lay). Words past its total stay.
-pub fn init(arena: &mut [u16], workers: u16, nodes: u16) -> Verdict
-    ensures answer { λ r. ⌜ verdictReply r ≡ initAnswer (now (arena .entry)) workers nodes ⌝ }
-    ensures words { λ _. ⌜ now (arena .exit) ≡ initArena (now (arena .entry)) workers nodes ⌝ }
+// Lays a fresh arena of a layout (document 01: lay). Words past its total stay.
+pub fn init(arena: &mut [u16], layout: u16, workers: u16, nodes: u16) -> Verdict
+    ensures answer { λ r. ⌜ verdictReply r ≡ initAnswer (now (arena .entry)) layout workers nodes ⌝ }
+    ensures words { λ _. ⌜ now (arena .exit) ≡ initArena (now (arena .entry)) layout workers nodes ⌝ }
 {
-    let verdict = fresh::init_verdict(arena, workers, nodes);
+    let verdict = fresh::init_verdict(arena, layout, workers, nodes);
     if let Verdict::Accepted = verdict {
-        fresh::write_fresh(arena, workers, nodes);
+        fresh::write_fresh(arena, layout, workers, nodes);
     }
     verdict
 }
 
-// Starts a call on a worker.
-pub fn start(arena: &mut [u16], worker: u16, operation: u16, key: u16) -> Verdict
-    ensures answer { λ r. ⌜ verdictReply r ≡ startAnswer (now (arena .entry)) worker operation key ⌝ }
-    ensures words { λ _. ⌜ now (arena .exit) ≡ startArena (now (arena .entry)) worker operation key ⌝ }
+// Starts a call on a worker; an add on an arena of layout 2 carries the length of its label, every other call 0.
+pub fn start(arena: &mut [u16], worker: u16, operation: u16, key: u16, length: u16) -> Verdict
+    ensures answer { λ r. ⌜ verdictReply r ≡ startAnswer (now (arena .entry)) worker operation key length ⌝ }
+    ensures words { λ _. ⌜ now (arena .exit) ≡ startArena (now (arena .entry)) worker operation key length ⌝ }
 {
-    let verdict = start_verdict(arena, worker, operation, key);
+    let verdict = start_verdict(arena, worker, operation, key, length);
     if let Verdict::Accepted = verdict {
-        records::write_worker(arena, worker, Worker::started(operation, key));
+        records::write_worker(arena, worker, Worker::started(operation, key, length));
     }
     verdict
 }
 
-fn start_verdict(arena: &[u16], worker: u16, operation: u16, key: u16) -> Verdict
-    ensures { λ r. ⌜ verdictReply r ≡ replied (startRefusals (now (arena .entry)) worker operation key) [] ⌝ }
+fn start_verdict(arena: &[u16], worker: u16, operation: u16, key: u16, length: u16) -> Verdict
+    ensures { λ r. ⌜ verdictReply r ≡ replied (startRefusals (now (arena .entry)) worker operation key length) [] ⌝ }
 {
     let verdict = header_verdict(arena);
     if let Verdict::Refused(_) = verdict {
         return verdict;
     }
-    call_verdict(arena, worker, operation, key)
+    call_verdict(arena, worker, operation, key, length)
 }
 
-fn call_verdict(arena: &[u16], worker: u16, operation: u16, key: u16) -> Verdict
-    ensures { λ r. ⌜ verdictReply r ≡ replied (callRefusals (now (arena .entry)) worker operation key) [] ⌝ }
+fn call_verdict(arena: &[u16], worker: u16, operation: u16, key: u16, length: u16) -> Verdict
+    ensures { λ r. ⌜ verdictReply r ≡ replied (callRefusals (now (arena .entry)) worker operation key length) [] ⌝ }
 {
     if words::word(arena, layout::WORKERS_AT) <= worker {
         return Verdict::Refused(refusal::NO_SUCH_WORKER);
@@ -69,7 +69,8 @@ fn call_verdict(arena: &[u16], worker: u16, operation: u16, key: u16) -> Verdict
     if stage != Worker::IDLE_STAGE {
         return Verdict::Refused(refusal::BUSY);
     }
-    if !worker::is_call(operation, key) {
+    let width = layout::node_width(words::word(arena, layout::LAYOUT_AT));
+    if !worker::is_call(layout::has_length(width), operation, key, length) {
         return Verdict::Refused(refusal::BAD_CALL);
     }
     Verdict::Accepted

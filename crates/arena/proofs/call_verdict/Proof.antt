@@ -34,27 +34,39 @@ busy c =
 bad-call : tie.Need-returns-4
 unfolding callRefusals
 bad-call c =
+    let asked = c .before in
+    let idle = asked .before .before .before .before in
     rw (
-      ← c .before .before .before .before .before .before .word .ensures,
-      lt-leb _ _ (c .before .before .before .before .before .if1 .left),
-      ← c .before .before .before .before .read-worker .ensures,
-      le-ltb _ _ (c .before .before .before .if2 .left),
-      eq-eqb _ _ (c .before .before .if3 .left),
-      sym (c .before .is-call .ensures) ∙ not-true _ (c .if4 .taken),
+      ← idle .before .before .before .before .word .ensures,
+      lt-leb _ _ (idle .before .before .before .if1 .left),
+      ← idle .before .before .read-worker .ensures,
+      le-ltb _ _ (idle .before .if2 .left),
+      eq-eqb _ _ (idle .if3 .left),
+      ← asked .before .before .before .word2 .ensures,
+      ← asked .before .before .node-width .ensures,
+      ← asked .before .has-length .ensures,
+      sym (asked .is-call .ensures) ∙ not-true _ (c .if4 .taken),
     )
 
 accepted : tie.Need-returns-5
 unfolding callRefusals
 accepted c =
+    let asked = c .before in
+    let idle = asked .before .before .before .before in
     rw (
-      ← c .before .before .before .before .before .before .word .ensures,
-      lt-leb _ _ (c .before .before .before .before .before .if1 .left),
-      ← c .before .before .before .before .read-worker .ensures,
-      le-ltb _ _ (c .before .before .before .if2 .left),
-      eq-eqb _ _ (c .before .before .if3 .left),
-      sym (c .before .is-call .ensures) ∙ not-false _ (c .if4 .left),
+      ← idle .before .before .before .before .word .ensures,
+      lt-leb _ _ (idle .before .before .before .if1 .left),
+      ← idle .before .before .read-worker .ensures,
+      le-ltb _ _ (idle .before .if2 .left),
+      eq-eqb _ _ (idle .if3 .left),
+      ← asked .before .before .before .word2 .ensures,
+      ← asked .before .before .node-width .ensures,
+      ← asked .before .has-length .ensures,
+      sym (asked .is-call .ensures) ∙ not-false _ (c .if4 .left),
     )
 
 pub call-verdict-spec : {M : Type 1} → statement M
 call-verdict-spec =
-    tie.close (tie.spec (search needs) no-such-worker (search needs) broken-record busy (search needs) bad-call accepted)
+    tie.close
+    (tie.spec (search needs) no-such-worker (search needs) broken-record busy (search needs) (search needs) (search needs) (search needs)
+    bad-call accepted)

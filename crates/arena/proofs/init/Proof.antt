@@ -14,7 +14,7 @@ good : tie.Need-write-fresh-requires
 good c κs =
     let args = c .before .before .before .before .before .before .args in
     let told = sym (ap verdictReply (c .before .enum-told .given .1)) ∙ c .before .before .before .init-verdict .ensures in
-    init-passed (now (args .arena)) (args .workers) (args .nodes) told
+    init-passed (now (args .arena)) (args .layout) (args .workers) (args .nodes) told
 
 accepted : tie.Need-returns
 unfolding initAnswer initArena
@@ -25,8 +25,8 @@ accepted c =
     let told = sym (ap verdictReply (known .enum-told .given .1)) ∙ verdict .ensures in (
       verdict .ensures,
       c .before .before .write-fresh .ensures
-          ∙ init-words (now (args .arena)) (args .workers) (args .nodes) told
-          ∙ sym (judged-accepted (initRefusals (now (args .arena)) (args .workers) (args .nodes)) [] _ _ told),
+          ∙ init-words (now (args .arena)) (args .layout) (args .workers) (args .nodes) told
+          ∙ sym (judged-accepted (initRefusals (now (args .arena)) (args .layout) (args .workers) (args .nodes)) [] _ _ told),
     )
 
 refused : tie.Need-returns-2
@@ -35,7 +35,7 @@ refused c =
     let args = c .before .before .before .before .before .args in
     let verdict = c .before .before .init-verdict in
     let told = sym (ap verdictReply (c .enum-told2 .given .1)) ∙ verdict .ensures in
-    (verdict .ensures, sym (judged-refused (initRefusals (now (args .arena)) (args .workers) (args .nodes)) [] _ _ told))
+    (verdict .ensures, sym (judged-refused (initRefusals (now (args .arena)) (args .layout) (args .workers) (args .nodes)) [] _ _ told))
 
 pub init-spec : {M : Type 1} → statement M
 init-spec =

@@ -16,7 +16,7 @@ accepted c =
     let args = known .before .before .before .before .before .args in
     let verdict = known .before .before .start-verdict in
     let told = sym (ap verdictReply (known .enum-told .given .1)) ∙ verdict .ensures in
-    let refusals = startRefusals (now (args .arena)) (args .worker) (args .operation) (args .key) in (
+    let refusals = startRefusals (now (args .arena)) (args .worker) (args .operation) (args .key) (args .length) in (
       verdict .ensures,
       rw (c .before .before .write-worker .ensures, c .before .before .before .started .ensures)
           (sym (judged-accepted refusals [] _ _ told)),
@@ -28,7 +28,7 @@ refused c =
     let args = c .before .before .before .before .before .args in
     let verdict = c .before .before .start-verdict in
     let told = sym (ap verdictReply (c .enum-told2 .given .1)) ∙ verdict .ensures in
-    let refusals = startRefusals (now (args .arena)) (args .worker) (args .operation) (args .key) in
+    let refusals = startRefusals (now (args .arena)) (args .worker) (args .operation) (args .key) (args .length) in
     (verdict .ensures, sym (judged-refused refusals [] _ _ told))
 
 pub start-spec : {M : Type 1} → statement M

@@ -17,7 +17,7 @@ refused c =
     let arena = now (args .arena) in
     let known = ap verdictReply (c .enum-told .given .1) in
     let told = sym known ∙ c .before .before .header-verdict .ensures in
-    known ∙ sym (refused-first (headerRefusals arena) (callRefusals arena (args .worker) (args .operation) (args .key)) [] _ _ told)
+    known ∙ sym (refused-first (headerRefusals arena) (callRefusals arena (args .worker) (args .operation) (args .key) (args .length)) [] _ _ told)
 
 accepted : tie.Need-returns-2
 unfolding startRefusals
@@ -26,7 +26,7 @@ accepted c =
     let arena = now (args .arena) in
     let told = sym (ap verdictReply (c .before .enum-told2 .given .1)) ∙ c .before .before .before .header-verdict .ensures in
     c .call-verdict .ensures
-    ∙ sym (accepted-first (headerRefusals arena) (callRefusals arena (args .worker) (args .operation) (args .key)) [] _ _ told)
+    ∙ sym (accepted-first (headerRefusals arena) (callRefusals arena (args .worker) (args .operation) (args .key) (args .length)) [] _ _ told)
 
 pub start-verdict-spec : {M : Type 1} → statement M
 start-verdict-spec =
