@@ -7,10 +7,9 @@ use native.Mathlib.Omega.{arith}
 use native.Mathlib.Decide.{ℕ-discrete}
 use native.Mathlib.Nat.{zero-add, mul-suc}
 use lib.ListN.{length, drop, set, replicate, length-append, replicate-append-replicate}
-use lib.Seq.{sets, sets-eq, length-take-le}
+use lib.Seq.{sets, sets-eq}
 use borrow.Author.Tests.{le-ltb, not-false, ltb-false}
 use Rattle.worker.specs.Worker.{idleWorker}
-use Rattle.worker.specs.declared.Node.{Node}
 use Rattle.worker.specs.Node.{head, tail, headNode, tailNode, unusedNode}
 use Rattle.words.specs.Layout.{headerWidth, workerFrom, slot, nodeKey, nodeNext, nodeWidth, headerWords, total, goodCounts}
 use Rattle.words.specs.Records.{workerWords, nodeWords}
@@ -20,6 +19,7 @@ use Rattle.arena.specs.Init.{freshWorkers, freshNodes, freshWords, initR
 use Rattle.words.proofs.Bounds.{counts, narrow}
 use Rattle.words.proofs.HeaderLaws.{header-of-some}
 use Rattle.words.proofs.Judged.{none-holds}
+use Rattle.words.proofs.RecordLaws.{node-long}
 use Rattle.words.proofs.Runs.{sets-append, length-copies, flat-copies}
 
 -- the nodes begin where the workers end
@@ -41,10 +41,6 @@ fresh-runs arena layout workers nodes =
       sets-append header (freshWorkers workers) arena 0,
     )
 
--- node words are as wide as a node
-node-words : (width : ℕ) (n : Node) → width ≤ 5 → length (nodeWords width n) ≡ width
-node-words width n few = length-take-le width _ few
-
 pub fresh-nodes-length : (width nodes : ℕ) → width ≤ 5 → 2 ≤ nodes → length (freshNodes width nodes) ≡ width * nodes
 unfolding freshNodes
 fresh-nodes-length width nodes few some =
@@ -53,9 +49,9 @@ fresh-nodes-length width nodes few some =
     simp (
       length-append,
       length-copies (nodes - 2) (nodeWords width unusedNode),
-      node-words width headNode few,
-      node-words width tailNode few,
-      node-words width unusedNode few,
+      node-long width headNode few,
+      node-long width tailNode few,
+      node-long width unusedNode few,
     ) (omega arith)
 
 pub fresh-length : (layout workers nodes : ℕ) → 2 ≤ nodes → length (freshWords layout workers nodes) ≡ total layout workers nodes

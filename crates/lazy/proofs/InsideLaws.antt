@@ -14,8 +14,9 @@ use Rattle.worker.specs.declared.report.Effect.the-variants as effect
 use Rattle.worker.specs.declared.report.Turned.{Turned}
 use Rattle.worker.specs.declared.report.Turned.the-variants as turned
 use Rattle.worker.proofs.EffectLaws.{EffectBelow, FreeBelow, done-below}
-use Rattle.words.specs.Layout.{word, layoutNumber, layoutOf, workersOf, nodesOf, nodesFromOf, totalOf, nodeWidth, nodeFrom, nodeNext, nodeMark, nodeOwner}
+use Rattle.words.specs.Layout.{word, layoutOf, workersOf, nodesOf, nodesFromOf, totalOf, nodeWidth, nodeFrom, nodeNext, nodeMark, nodeOwner}
 use Rattle.words.specs.Records.{workerAt, Outside}
+use Rattle.words.proofs.Bounds.{wide}
 use Rattle.words.proofs.HeaderLaws.{Header}
 use Rattle.words.proofs.Slots.{slot-within}
 use Rattle.lazy.specs.Turn.{seenOf, seenBy, turnOn, turnArena}
@@ -35,18 +36,12 @@ effect-below arena worker e =
     go true (free.Node node) same = lowest-found (nextIn arena) (nodesOf arena) (rootsIn arena) same .0 .below
     go false found same = tt
 
--- the last field has room in every layout there is
-pub fields-fit : (layout : ℕ) → layout ≡ layoutNumber → nodeOwner < nodeWidth layout
-unfolding nodeWidth
-fields-fit layout same = rw same (omega arith)
-
 -- a field of a node below N stands among the node records
-pub field-inside : (arena : List ℕ) (node field : ℕ) → Header arena → node < nodesOf arena → field ≤ nodeOwner →
+pub field-inside : (arena : List ℕ) (node field : ℕ) → Header arena → node < nodesOf arena → field < nodeWidth (layoutOf arena) →
     (nodesFromOf arena ≤ nodeFrom arena node field) × (nodeFrom arena node field < totalOf arena)
 unfolding nodeFrom
 field-inside arena node field header below fits =
-    let wide = fields-fit (layoutOf arena) (header .layout) in
-    let inside = slot-within (nodeWidth (layoutOf arena)) node (nodesOf arena) field below (omega arith) in
+    let inside = slot-within (nodeWidth (layoutOf arena)) node (nodesOf arena) field below fits in
     (omega arith, omega (arith, header .from, header .end))
 
 module _ (arena : List ℕ) (worker at : ℕ) where
@@ -54,7 +49,7 @@ module _ (arena : List ℕ) (worker at : ℕ) where
   outside known header (inl before) = before .1
   outside known header (inr behind) = inr (omega (arith, header .end))
 
-  away : (node field : ℕ) → Header arena → Elsewhere arena worker at → node < nodesOf arena → field ≤ nodeOwner →
+  away : (node field : ℕ) → Header arena → Elsewhere arena worker at → node < nodesOf arena → field < nodeWidth (layoutOf arena) →
       at ≡ nodeFrom arena node field → ⊥
   away node field header (inl before) below fits e =
       let inside = field-inside arena node field header below fits in omega (arith, before .0, inside .0, header .from)
@@ -63,10 +58,10 @@ module _ (arena : List ℕ) (worker at : ℕ) where
 
   not-touched : (e : Effect) → Header arena → Elsewhere arena worker at → EffectBelow (nodesOf arena) e → Touches arena e at → ⊥
   not-touched effect.Nothing header else below touched = touched
-  not-touched (effect.SetOwner node owner) header else below touched = away node nodeOwner header else below (omega arith) touched
-  not-touched (effect.SetNext node next) header else below touched = away node nodeNext header else below (omega arith) touched
-  not-touched (effect.SetMark node) header else below touched = away node nodeMark header else below (omega arith) touched
-  not-touched (effect.Fill node key next) header else below touched =
+  not-touched (effect.SetOwner node owner) header else below touched = away node nodeOwner header else below (omega (arith, wide (header .good))) touched
+  not-touched (effect.SetNext node next) header else below touched = away node nodeNext header else below (omega (arith, wide (header .good))) touched
+  not-touched (effect.SetMark node) header else below touched = away node nodeMark header else below (omega (arith, wide (header .good))) touched
+  not-touched (effect.Fill node key next length) header else below touched =
       away node (touched .0) header else below (touched .1) (touched .2)
 
   -- a turn leaves the header, the other workers' records and the words past the total

@@ -27,13 +27,14 @@ use Rattle.worker.proofs.RefusalLaws.{judged-append, none-accepts}
 use Rattle.worker.proofs.ReportLaws.{report-told}
 use Rattle.worker.proofs.TurnLaws.{judged-done, done-step, step-row}
 use Rattle.worker.proofs.StillLaws.{still-step}
-use Rattle.words.specs.Layout.{word, workersOf, nodesOf, nodeFrom, nodeKey, nodeNext, nodeMark, nodeOwner}
-use Rattle.words.specs.Records.{workerAt, nodeWords, Outside}
+use Rattle.words.specs.Layout.{word, layoutOf, workersOf, nodesOf, nodeWidth, nodeFrom, nodeKey, nodeNext, nodeMark, nodeOwner}
+use Rattle.words.specs.Records.{workerAt, nodeWords, withNode, Outside}
 use Rattle.words.specs.Replies.{refused, accepted}
 use Rattle.words.specs.Header.{headerRefusals}
+use Rattle.words.proofs.Bounds.{narrow}
 use Rattle.words.proofs.HeaderLaws.{Header, header-holds}
 use Rattle.words.proofs.Runs.{sets-outside}
-use Rattle.words.proofs.RecordLaws.{others-stay, rewritten}
+use Rattle.words.proofs.RecordLaws.{node-long, others-stay, rewritten}
 use Rattle.lazy.specs.Free.{lowestFree}
 use Rattle.lazy.specs.declared.Outcome.{Outcome}
 use Rattle.lazy.specs.declared.Outcome.the-variants as outcome
@@ -65,13 +66,16 @@ refused-stays arena worker {number} e = go (turnOn arena worker) e
 
 -- an effect leaves every word but those it writes
 effect-leaves : (arena : List ℕ) (e : Effect) (at : ℕ) → (Touches arena e at → ⊥) → word (withEffect arena e) at ≡ word arena at
-unfolding withEffect nodeFrom
+unfolding withEffect withNode nodeFrom
 effect-leaves arena effect.Nothing at out = refl
 effect-leaves arena (effect.SetOwner node owner) at out = getD-set-other arena (nodeFrom arena node nodeOwner) at owner 0 out
 effect-leaves arena (effect.SetNext node next) at out = getD-set-other arena (nodeFrom arena node nodeNext) at next 0 out
 effect-leaves arena (effect.SetMark node) at out = getD-set-other arena (nodeFrom arena node nodeMark) at 1 0 out
-effect-leaves arena (effect.Fill node key next) at out =
-    sets-outside (nodeWords (newNode key next)) arena (nodeFrom arena node nodeKey) at (λ k h e. out (k, omega arith, omega arith))
+effect-leaves arena (effect.Fill node key next length) at out =
+    let width = nodeWidth (layoutOf arena) in
+    let filled = newNode key next length in
+    sets-outside (nodeWords width filled) arena (nodeFrom arena node nodeKey) at
+    (λ k h e. out (k, omega (arith, node-long width filled (narrow (layoutOf arena))), omega arith))
 
 -- a turn leaves every word but the worker's own record and what its effect writes
 pub turn-leaves : (arena : List ℕ) (worker at : ℕ) {step : Step} → turnOn arena worker ≡ turned.Done step →

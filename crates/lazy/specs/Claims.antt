@@ -29,7 +29,7 @@ module _ (arena : List ℕ) (w : Worker) (step : Step) where
   -- takes the lowest-numbered free node
   pub record Takes : Type 0 where
     pub node : ℕ
-    pub effect : step .effect ≡ Fill node (w .key) (w .curr)
+    pub effect : step .effect ≡ Fill node (w .key) (w .curr) (w .length)
     pub free : FreeIn arena node
     pub lowest : (lower : ℕ) → lower < node → FreeIn arena lower → ⊥
 
@@ -45,7 +45,7 @@ Touches arena Nothing at = ⊥
 Touches arena (SetOwner node owner) at = at ≡ nodeFrom arena node nodeOwner
 Touches arena (SetNext node next) at = at ≡ nodeFrom arena node nodeNext
 Touches arena (SetMark node) at = at ≡ nodeFrom arena node nodeMark
-Touches arena (Fill node key next) at = (field : ℕ) × (field ≤ nodeOwner) × (at ≡ nodeFrom arena node field)
+Touches arena (Fill node key next length) at = (field : ℕ) × (field < nodeWidth (layoutOf arena)) × (at ≡ nodeFrom arena node field)
 
 -- a place that no turn of a worker writes: in the header, in another worker's record, or past the total (`InsideLaws.turn-inside`)
 abbrev pub Elsewhere : List ℕ → ℕ → ℕ → Type 0

@@ -3,7 +3,6 @@ use Prim.Native.Nat.{ℕ, suc}
 use mathlib.Core.List.{List, [], _∷_, _++_}
 use mathlib.Core.Bool.{cond}
 use lib.ListN.{set}
-use lib.Seq.{sets}
 use lib.Dec.{leb, eqb}
 use Rattle.worker.specs.Node.{newNode}
 use Rattle.worker.specs.Refusals.{Refusal, judged, noSuchWorker}
@@ -17,8 +16,8 @@ use Rattle.worker.specs.declared.report.Effect.{Effect}
 use Rattle.worker.specs.declared.report.Effect.the-variants as effect
 use Rattle.worker.specs.declared.report.Turned.{Turned}
 use Rattle.worker.specs.declared.report.Turned.the-variants as turned
-use Rattle.words.specs.Layout.{layoutOf, workersOf, nodesOf, nodeWidth, nodeKey, nodeNext, nodeMark, nodeOwner, nodePart, nodeFrom}
-use Rattle.words.specs.Records.{workerAt, withWorker, nodeWords, nodeAt}
+use Rattle.words.specs.Layout.{layoutOf, workersOf, nodesOf, nodeWidth, nodeNext, nodeMark, nodeOwner, nodePart, nodeFrom}
+use Rattle.words.specs.Records.{workerAt, withWorker, withNode, nodeAt}
 use Rattle.words.specs.Replies.{Reply, refused, accepted}
 use Rattle.words.specs.Header.{headerRefusals}
 use Rattle.lazy.specs.Free.{rootsOf, lowestFree}
@@ -60,13 +59,14 @@ turnOn arena worker =
     let w = workerAt arena worker in
     judged (workerRefusals arena worker) turned.Refused (turnOf w (suc worker) (seenBy arena w))
 
--- the arena with an effect: owner of a node := o; next of a node := s; mark of a node := 1; a node written as e, c, 0, 0
+-- the arena with an effect: owner of a node := o; next of a node := s; mark of a node := 1; a node written as e, c, 0, 0 and, in layout 2,
+-- the length
 unfoldable pub withEffect : List ℕ → Effect → List ℕ
 withEffect arena effect.Nothing = arena
 withEffect arena (effect.SetOwner node owner) = set arena (nodeFrom arena node nodeOwner) owner
 withEffect arena (effect.SetNext node next) = set arena (nodeFrom arena node nodeNext) next
 withEffect arena (effect.SetMark node) = set arena (nodeFrom arena node nodeMark) 1
-withEffect arena (effect.Fill node key next) = sets arena (nodeFrom arena node nodeKey) (nodeWords (newNode key next))
+withEffect arena (effect.Fill node key next length) = withNode arena node (newNode key next length)
 
 -- the effect and the worker's next record; a refused turn changes nothing
 abbrev pub turnedArena : List ℕ → ℕ → Turned → List ℕ

@@ -135,12 +135,8 @@ fn apply(arena: &mut [u16], effect: Effect)
             records::write_node_field(arena, node, layout::NODE_NEXT, next)
         }
         Effect::SetMark(node) => records::write_node_field(arena, node, layout::NODE_MARK, 1),
-        Effect::Fill(node, key, next) => {
-            records::write_node(
-                arena,
-                records::node_from(arena, node, layout::NODE_KEY),
-                Node::new(key, next),
-            )
+        Effect::Fill(node, key, next, length) => {
+            records::write_node(arena, node, Node::new(key, next, length))
         }
     }
 }

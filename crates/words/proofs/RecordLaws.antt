@@ -1,16 +1,21 @@
--- Laws of a worker's record in an arena.
+-- Laws of records: how many words a node has, and a worker's record in an arena.
 use Prim.Native.Nat.{ℕ, _+_, _≤_, _<_}
 use mathlib.Core.Path.{_≡_, subst}
 use mathlib.Core.Logic.{⊎-elim}
-use mathlib.Core.List.{List}
+use mathlib.Core.List.{List, [], _∷_}
 use native.Mathlib.Omega.{arith}
 use native.Mathlib.Nat.{add-zero}
 use lib.ListN.{length}
-use lib.Seq.{sets}
+use lib.Seq.{sets, length-take-le}
+use Rattle.worker.specs.declared.Node.{Node}
 use Rattle.worker.specs.declared.Worker.{Worker}
 use Rattle.words.specs.Layout.{word, workerWidth, workerFrom}
-use Rattle.words.specs.Records.{workerWords, workerAt, withWorker, Outside}
+use Rattle.words.specs.Records.{nodeWords, workerWords, workerAt, withWorker, Outside}
 use Rattle.words.proofs.Runs.{sets-outside, sets-at, run, sets-run}
+
+-- a node has as many words as its width says
+pub node-long : (width : ℕ) (n : Node) → width ≤ 5 → length (nodeWords width n) ≡ width
+node-long width n few = length-take-le width (n .key ∷ n .next ∷ n .mark ∷ n .owner ∷ n .length ∷ []) few
 
 module _ (arena : List ℕ) (worker : ℕ) (w : Worker) where
   -- the record that was written is read back

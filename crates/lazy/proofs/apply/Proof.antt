@@ -22,14 +22,10 @@ mark c = rw (c .before .before .write-node-field3 .ensures, c .before .before .b
 
 fill : tie.Need-returns-5
 unfolding withEffect
-fill c =
-    let node = c .before .before .before in
-    rw (
-      c .before .before .write-node .ensures,
-      node .new .ensures,
-      node .before .node-from .ensures,
-      node .before .before .before .before .before .effect4 .given .1,
-    )
+fill c = rw (c .before .before .write-node .ensures, c .before .before .before .new .ensures, c .before .before .before .before .before .before .effect4 .given .1)
 
 pub apply-spec : {M : Type 1} → statement M
-apply-spec = tie.close (tie.spec (search needs) (search needs) (search needs) (search needs) (search needs) (search needs) (search needs) (search needs) (search needs) (search needs) (search needs) nothing (search needs) owner (search needs) next (search needs) mark (search needs) fill)
+apply-spec =
+    tie.close
+    (tie.spec (search needs) (search needs) (search needs) (search needs) (search needs) (search needs) (search needs) (search needs)
+    (search needs) (search needs) nothing (search needs) owner (search needs) next (search needs) mark (search needs) fill)
