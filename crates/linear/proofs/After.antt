@@ -12,7 +12,7 @@ use Rattle.linear.proofs.Reach.{here, along, same?}
 use Rattle.linear.proofs.State.{State, wordAfter, stepped}
 use Rattle.linear.proofs.Promises.{Holds, in-curr, Root, head, tail, held, Live}
 use Rattle.linear.proofs.Invariant.{Stands, dead, chained, new, Nodes, Inv, live-held, live-next, live-chain, live-tail, live-in, not-tail}
-use Rattle.linear.proofs.Effects.{Known, old, top, far, link, Act, quiet, owns, fills, links, marks, unlinks, Fills, at-node, off-node, written, inside-after, key-after, leads-after, rises-after, run-after, dead-after, touched-after, owner-after, linked}
+use Rattle.linear.proofs.Effects.{Known, old, top, far, link, Act, quiet, owns, fills, links, marks, unlinks, Fills, at-node, off-node, written, inside-after, label-after, key-after, leads-after, rises-after, run-after, dead-after, touched-after, owner-after, linked}
 
 -- what the worker holds after its step it held, or read, or has filled; and a node that it has filled is its new one at 15
 pub record Places (nodes : ℕ) (s : State) (w : ℕ) (step : Step) : Type 0 where
@@ -22,7 +22,8 @@ pub record Places (nodes : ℕ) (s : State) (w : ℕ) (step : Step) : Type 0 whe
 -- what the others see of a step of worker w
 pub record View (nodes : ℕ) (s t : State) (w : ℕ) : Type 0 where
   pub others : (v : ℕ) → v ≢ w → t .worker v ≡ s .worker v
-  pub keys : (n : ℕ) → Live nodes s n → t .key n ≡ s .key n
+  pub kind : t .lengths ≡ s .lengths
+  pub labels : (n : ℕ) → Live nodes s n → (t .key n ≡ s .key n) × (t .length n ≡ s .length n)
   pub touched : (n : ℕ) → Live nodes s n →
       ((t .next n ≡ s .next n) × (t .mark n ≡ s .mark n)) ⊎ ((s .owner n ≡ suc w) × Holds (s .worker w) n)
   pub taken : (n : ℕ) → Live nodes s n → (t .owner n ≡ s .owner n) ⊎ ((s .owner n ≡ 0) ⊎ (s .owner n ≡ suc w))
@@ -83,7 +84,8 @@ module _ {nodes : ℕ} {s : State} (inv : Inv nodes s) (w : ℕ) {step : Step} (
   view-after =
       record {
         others = others-after;
-        keys = λ n l. key-after inv w act l;
+        kind = refl;
+        labels = λ n l. label-after inv w act l;
         touched = λ n l. touched-after inv w act l;
         taken = λ n l. owner-after inv w act l;
         leads = λ m l. leads m (live-after l);

@@ -1,6 +1,6 @@
 -- The stage table, row by row: the turns that decide an answer or take a node, and those of a look-up.
 use Prim.Native.Nat.{ℕ, _<_}
-use mathlib.Core.Path.{_≡_, refl, sym, subst, _∙_}
+use mathlib.Core.Path.{_≡_, refl, sym, ap, subst, _∙_}
 use mathlib.Core.Logic.{_⊎_, inl, inr, _≢_}
 use mathlib.Core.Bool.{Bool, true, false, cond}
 use native.Mathlib.Omega.{arith}
@@ -19,12 +19,12 @@ use Rattle.worker.specs.declared.report.Step.{Step}
 use Rattle.worker.specs.declared.report.Effect.the-variants.{SetNext, SetMark, Fill}
 use Rattle.linear.specs.History.{isDecision}
 use Rattle.linear.proofs.Reach.{here}
-use Rattle.linear.proofs.State.{State, shapeOf, stepped}
+use Rattle.linear.proofs.State.{State, keptLength, shapeOf, stepped}
 use Rattle.linear.proofs.Promises.{Holds, in-pred, in-curr, in-spare, Live, Private, Neighbours, Gap, promises}
 use Rattle.linear.proofs.Invariant.{In, Inv, Range, promised, sane-at, live-held, live-next, live-chain, live-tail, on-chain, not-head, not-tail, absent, nothing-ahead, ahead-next}
 use Rattle.linear.proofs.Effects.{Known, old, top, link, Act, quiet, fills, links, marks, at-node, off-node, two-nodes}
 use Rattle.linear.proofs.Stable.{both-held-kept, gap-kept}
-use Rattle.linear.proofs.After.{Places, live-after, others-after}
+use Rattle.linear.proofs.After.{Places, live-after, own-after, others-after}
 use Rattle.linear.proofs.Course.{goes-in, goes-out, present, missing, late, Row}
 use Rattle.linear.proofs.TurnKinds.{whole, removing, updates, any-look-up, curr-known, sane-parts, key-in-range, goes-row, finds-out, looks-on, settles-row}
 
@@ -98,13 +98,13 @@ module _ {nodes : ℕ} {s : State} (inv : Inv nodes s) (me : ℕ) where
   -- the worker's new node, once it is filled
   module _ {x : ℕ} (at : w .stage ≡ 14) (inside : x < nodes) (free : Live nodes s x → ⊥) where
     abbrev filling : Step
-    filling = goes (withSpare w x) 15 (Fill x (w .key) (w .curr))
+    filling = goes (withSpare w x) 15 (Fill x (w .key) (w .curr) (w .length))
 
     gap : Gap nodes (shapeOf s) me (w .key) (w .pred) (w .curr)
     unfolding promises
     gap = promised inv me at
 
-    fill : Act nodes s me (Fill x (w .key) (w .curr))
+    fill : Act nodes s me (Fill x (w .key) (w .curr) (w .length))
     fill = fills (omega arith) inside free (key-in-range inv me at (omega arith)) gap
 
     fill-places : Places nodes s me filling
@@ -158,8 +158,11 @@ module _ {nodes : ℕ} {s : State} (inv : Inv nodes s) (me : ℕ) where
           has-key = at-node x x (w .key) _ refl;
           has-next = at-node x x (w .curr) _ refl;
           has-mark = at-node x x 0 _ refl;
+          has-length =
+              at-node x x (keptLength s (w .length)) _ refl
+              ∙ ap (λ (r : Worker). keptLength s (r .length)) (sym (own-after inv me fill fill-places));
         })
-        (sane-at inv me at (omega arith)) (record { busy = omega arith; operation = refl; key = refl }) refl
+        (sane-at inv me at (omega arith)) (record { busy = omega arith; operation = refl; key = refl; length = refl }) refl
         (rw (eqb-true (w .answer) 0 (q .2))) refl (λ later. absurd (omega arith))
 
   -- what the search for a free node finds

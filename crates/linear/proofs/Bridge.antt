@@ -15,7 +15,7 @@ use Rattle.worker.specs.declared.report.Step.{Step}
 use Rattle.worker.specs.declared.report.Turned.{Turned}
 use Rattle.worker.specs.declared.report.Turned.the-variants.{Refused, Done}
 use Rattle.worker.proofs.RefusalLaws.{NoneHolds, judged-keeps, judged-append, none-accepts}
-use Rattle.words.specs.Layout.{workersOf, nodesOf}
+use Rattle.words.specs.Layout.{layoutOf, workersOf, nodesOf}
 use Rattle.words.specs.Records.{workerAt}
 use Rattle.words.specs.Replies.{Reply, refused, accepted, replied}
 use Rattle.words.specs.Header.{headerRefusals}
@@ -28,9 +28,10 @@ use Rattle.linear.specs.Entries.{Entry, isTurn, Event, callStarted, turn
 use Rattle.linear.proofs.State.{decode, stepped, startStep, seenIn, turnStep}
 use Rattle.linear.proofs.Stepped.{steppedArena, known-record, header-stays, none-stays, state-steps}
 
--- an arena with W workers and N nodes whose header is in order
-pub record Sound (workers nodes : ℕ) (arena : List ℕ) : Type 0 where
+-- an arena of a layout with W workers and N nodes whose header is in order
+pub record Sound (layout workers nodes : ℕ) (arena : List ℕ) : Type 0 where
   pub none : NoneHolds (headerRefusals arena)
+  pub layout-is : layoutOf arena ≡ layout
   pub workers-are : workersOf arena ≡ workers
   pub nodes-are : nodesOf arena ≡ nodes
 
@@ -39,8 +40,8 @@ pub data Entered (workers nodes : ℕ) (arena : List ℕ) (entry : Entry) : Type
   refuses : (number : ℕ) → eventOf arena entry ≡ entryRefused number → after arena entry ≡ arena →
       (isTurn entry ≡ true → number ≡ noSuchWorker) → Entered workers nodes arena entry
   starts : eventOf arena entry ≡ callStarted → isTurn entry ≡ false → entry .worker < workers →
-      decode arena .worker (entry .worker) .stage ≡ 0 → isCall (entry .act) (entry .key) ≡ true →
-      decode (after arena entry) ≡ stepped (decode arena) (entry .worker) (startStep (entry .act) (entry .key)) →
+      decode arena .worker (entry .worker) .stage ≡ 0 → isCall (decode arena .lengths) (entry .act) (entry .key) (entry .length) ≡ true →
+      decode (after arena entry) ≡ stepped (decode arena) (entry .worker) (startStep (entry .act) (entry .key) (entry .length)) →
       Entered workers nodes arena entry
   turns : eventOf arena entry ≡ turnReported (turnStep workers nodes (decode arena) (entry .worker) .report) → isTurn entry ≡ true →
       entry .worker < workers →
@@ -54,7 +55,7 @@ roots-same a b zero same = refl
 roots-same a b (suc count) same =
     rw (same count (omega arith), roots-same a b count (λ v there. same v (omega arith)))
 
-module _ {workers nodes : ℕ} {arena : List ℕ} (sound : Sound workers nodes arena) where
+module _ {layout workers nodes : ℕ} {arena : List ℕ} (sound : Sound layout workers nodes arena) where
   -- the record of a worker that there is
   own-record : (w : ℕ) → w < workers → decode arena .worker w ≡ workerAt arena w
   own-record w known = known-record arena w (omega (arith, sound .workers-are))
@@ -122,14 +123,14 @@ module _ {workers nodes : ℕ} {arena : List ℕ} (sound : Sound workers nodes a
       w = entry .worker
 
       refusals : List Refusal
-      refusals = startRefusals arena w (entry .act) (entry .key)
+      refusals = startRefusals arena w (entry .act) (entry .key) (entry .length)
 
       go : (reply : Reply) → reply ≡ replied refusals [] → Entered workers nodes arena entry
       go (refused number) e =
           refuses number (rw start (judged-refused refusals [] entryRefused callStarted e))
           (rw start (judged-refused refusals [] (λ number. arena) _ e)) (λ turn. absurd (true≢false (sym turn ∙ start)))
       go (accepted values) e =
-          let step = startStep (entry .act) (entry .key) in
+          let step = startStep (entry .act) (entry .key) (entry .length) in
           let call = none-holds refusals [] e .1 .1 in
           let there = leb-false (workersOf arena) w (call .0) in
           let known : w < workers = omega (arith, sound .workers-are) in
@@ -141,10 +142,10 @@ module _ {workers nodes : ℕ} {arena : List ℕ} (sound : Sound workers nodes a
           (ap decode writes ∙ state-steps arena (sound .none) w step there tt)
 
 -- where no worker's record and no link would make a turn refused, every entry is one of these
-pub entered : {workers nodes : ℕ} {arena : List ℕ} → Sound workers nodes arena →
+pub entered : {layout workers nodes : ℕ} {arena : List ℕ} → Sound layout workers nodes arena →
     ((w : ℕ) → w < workers → NoneHolds (turnRefusals (decode arena .worker w) (seenIn workers nodes (decode arena) w))) →
     (entry : Entry) → Entered workers nodes arena entry
-entered {workers} {nodes} {arena} sound passes entry = go (isTurn entry) refl
+entered {layout} {workers} {nodes} {arena} sound passes entry = go (isTurn entry) refl
   where
     go : (t : Bool) → isTurn entry ≡ t → Entered workers nodes arena entry
     go true turn =
@@ -164,19 +165,20 @@ after-keeps P arena entry stays writes = go (isTurn entry)
     turned (Refused number) = stays
     turned (Done step) = writes step
 
-    go : (t : Bool) → P (cond t (turnArena arena w) (startArena arena w (entry .act) (entry .key)))
+    go : (t : Bool) → P (cond t (turnArena arena w) (startArena arena w (entry .act) (entry .key) (entry .length)))
     go true = turned (turnOn arena w)
     go false =
-        judged-keeps P (startRefusals arena w (entry .act) (entry .key)) (λ number. arena) _ (λ number. stays)
-        (writes (startStep (entry .act) (entry .key)))
+        judged-keeps P (startRefusals arena w (entry .act) (entry .key) (entry .length)) (λ number. arena) _ (λ number. stays)
+        (writes (startStep (entry .act) (entry .key) (entry .length)))
 
 -- an entry of any kind leaves the header in order
-pub after-sound : {workers nodes : ℕ} {arena : List ℕ} → Sound workers nodes arena → (entry : Entry) →
-    Sound workers nodes (after arena entry)
-after-sound {workers} {nodes} {arena} sound entry =
-    after-keeps (Sound workers nodes) arena entry sound
+pub after-sound : {layout workers nodes : ℕ} {arena : List ℕ} → Sound layout workers nodes arena → (entry : Entry) →
+    Sound layout workers nodes (after arena entry)
+after-sound {layout} {workers} {nodes} {arena} sound entry =
+    after-keeps (Sound layout workers nodes) arena entry sound
     (λ step. record {
       none = none-stays arena (sound .none) (entry .worker) step;
+      layout-is = header-stays arena (sound .none) (entry .worker) step 0 (omega arith) ∙ sound .layout-is;
       workers-are = header-stays arena (sound .none) (entry .worker) step 1 (omega arith) ∙ sound .workers-are;
       nodes-are = header-stays arena (sound .none) (entry .worker) step 2 (omega arith) ∙ sound .nodes-are;
     })

@@ -11,13 +11,14 @@ use Rattle.worker.specs.declared.report.Answer.the-variants.{No}
 use Rattle.linear.specs.History.{Call}
 use Rattle.linear.specs.Order.{rank}
 use Rattle.linear.proofs.Simulation.{Placed, acting, late}
-use Rattle.linear.proofs.Timeline.{Begun, has, start, Schedule, state, last, entry, call-at}
+use Rattle.linear.proofs.Timeline.{Begun, has, label, start, Schedule, state, last, entry, call-at}
+use Rattle.linear.proofs.Keys.{none-found}
 use Rattle.linear.proofs.Phases.{decider, Decided, Phase, runs, closes, finished, phase-at}
 use Rattle.linear.proofs.Points.{Fate, waits, acted, looked}
 
 -- a contains that answers no is not the call whose turn it was
-late-rank : (call : Call) {worker operation key start point finish answer : ℕ} → operation ≡ contains → answer ≡ answerNumber No →
-    call ≡ record { worker = worker; operation = operation; key = key; start = start; point = point; finish = finish; answer = answer } →
+late-rank : (call : Call) {worker operation key length start point finish answer : ℕ} → operation ≡ contains → answer ≡ answerNumber No →
+    call ≡ record { worker = worker; operation = operation; key = key; length = length; start = start; point = point; finish = finish; answer = answer } →
     rank call ≡ 0 → ⊥
 late-rank call {worker} asks denies e zeroth = let is : suc worker ≡ 0 = rw (e, asks, denies) at zeroth in omega arith
 
@@ -53,7 +54,7 @@ module _ (r : Schedule) where
   pub data Told (call : Call) : Type 0 where
     open-yet : call .point ≡ 0 → call .finish ≡ 0 → call .answer ≡ 0 → Told call
     pointed : call .point ≢ 0 → call .start ≤ call .point → call .point ≤ last r → (call .finish ≡ 0) ⊎ (call .point < call .finish) →
-        Placed (has r) call → Told call
+        Placed (label r) call → Told call
 
   pub told : (time : ℕ) (b : Begun r time) → Fate r time b → Told (call-at r (suc time))
   told time b (waits e undecided) = subst Told (sym e) (open-yet refl refl refl)
@@ -61,7 +62,7 @@ module _ (r : Schedule) where
       subst Told (sym e) (pointed (omega arith) (omega (arith, it .begun)) in-time later (acting t refl does))
   told time b (looked t finish point it in-time later asks denies absent low high e) =
       subst Told (sym e)
-      (pointed (omega arith) low (omega arith) (⊎-elim inl (λ after. inr (omega arith)) later) (late asks denies absent))
+      (pointed (omega arith) low (omega arith) (⊎-elim inl (λ after. inr (omega arith)) later) (late asks denies (none-found r point _ absent)))
 
   -- two calls whose own turns their points are have different points
   pub own-points : (s t : ℕ) (b : Begun r s) (c : Begun r t) → s < t → Fate r s b → Fate r t c →

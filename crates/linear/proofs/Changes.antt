@@ -1,16 +1,16 @@
 -- What an effect does to the set, and to what is ahead of a look-up.
 use Prim.Native.Nat.{ℕ}
-use mathlib.Core.Path.{_≡_, refl, sym, ap, _∙_}
+use mathlib.Core.Path.{_≡_, refl, sym, ap, subst, _∙_}
 use mathlib.Core.Logic.{_⊎_, inl, inr, ⊎-elim, ⊎-map, _≢_}
 use native.Mathlib.Omega.{arith}
 use Rattle.worker.specs.declared.report.Step.{Step}
 use Rattle.worker.specs.declared.report.Effect.{Effect}
 use Rattle.words.specs.Layout.{nodeMark}
 use Rattle.linear.proofs.Reach.{Reach, here, same?}
-use Rattle.linear.proofs.State.{State, shapeOf, wordAfter, stepped}
+use Rattle.linear.proofs.State.{State, keptLength, shapeOf, wordAfter, stepped}
 use Rattle.linear.proofs.Promises.{in-pred, in-curr, in-spare, Live, PredStays, Filled, Hit}
 use Rattle.linear.proofs.Invariant.{In, Ahead, Inv, Range, live-held, live-chain, not-head, not-tail, once, absent, on-chain}
-use Rattle.linear.proofs.Effects.{Act, quiet, owns, fills, links, marks, unlinks, at-node, off-node, key-after, run-after, chain-before, dead-after, linked}
+use Rattle.linear.proofs.Effects.{Act, quiet, owns, fills, links, marks, unlinks, at-node, off-node, label-after, key-after, run-after, chain-before, dead-after, linked}
 
 -- the effects that keep the set, the one that adds to it, and the one that takes from it
 abbrev pub Keeps : {nodes : ℕ} {s : State} {w : ℕ} {e : Effect} → Act nodes s w e → Type 0
@@ -60,6 +60,15 @@ module _ {nodes : ℕ} {s : State} {w : ℕ} where
   linking (links c r f) k = (f, c)
   linking (marks c r f) k = absurd k
   linking (unlinks c r f) k = absurd k
+
+  -- and nowhere else
+  adding : {e : Effect} (act : Act nodes s w e) → s .worker w .stage ≡ 15 → Adds act
+  adding (quiet c) at = c at
+  adding (owns c o) at = c at
+  adding (fills c i free r f) at = c at
+  adding (links c r f) at = tt
+  adding (marks c r f) at = c at
+  adding (unlinks c r f) at = c at
 
   -- where a key is taken, curr is then marked
   marking : {e : Effect} (act : Act nodes s w e) → Takes act →
@@ -135,6 +144,15 @@ module _ {nodes : ℕ} {s : State} (inv : Inv nodes s) (w : ℕ) (step : Step) (
   pub keeps-set : Keeps act → ((key : ℕ) → In s key → In (stepped s w step) key) × ((key : ℕ) → In (stepped s w step) key → In s key)
   keeps-set k = (λ key i. the-first (λ taken. taken .1 (inl k)) (kept i), λ key i. before i (chained-before (inl k) i))
 
+  -- where a key is added, the new node has it, and what nodes keep of its length
+  new-label : Adds act →
+      (stepped s w step .key (s .worker w .spare) ≡ s .worker w .key)
+      × (stepped s w step .length (s .worker w .spare) ≡ keptLength s (s .worker w .length))
+  new-label k =
+      let new = linking act k .0 in
+      let label = label-after inv w act (live-held w (in-spare refl) (new .spare-in)) in
+      (label .0 ∙ new .has-key, label .1 ∙ new .has-length)
+
   -- where a key is added, it is new, and there now, and the other keys stay
   pub adds-key : Adds act →
       (In s (s .worker w .key) → ⊥) × In (stepped s w step) (s .worker w .key)
@@ -165,12 +183,12 @@ module _ {nodes : ℕ} {s : State} (inv : Inv nodes s) (w : ℕ) (step : Step) (
             not-head = new .alone .not-head;
             not-tail = new .alone .not-tail;
             unmarked = the-first (λ taken. taken .1 (inr k)) (mark-after act spare-live) ∙ new .has-mark;
-            has-key = key-after inv w act spare-live ∙ new .has-key;
+            has-key = new-label k .0;
           }
 
       was : (key : ℕ) → In (stepped s w step) key → In s key ⊎ (key ≡ s .worker w .key)
       was key i =
-          ⊎-map (before i) (λ at. sym (i .has-key) ∙ ap (stepped s w step .key) (at .1) ∙ is-now .has-key)
+          ⊎-map (before i) (λ at. sym (i .has-key) ∙ ap (stepped s w step .key) (at .1) ∙ new-label k .0)
           (chain-before inv w act (i .chain))
 
   -- where a key is taken, it was there, and is not now, and the other keys stay
@@ -204,6 +222,28 @@ module _ {nodes : ℕ} {s : State} (inv : Inv nodes s) (w : ℕ) (step : Step) (
           let j = before i (chained-before (inr k) i) in
           let at-curr : i .node ≡ s .worker w .curr = once (inv .shape) (j .chain) (was .chain) (j .has-key ∙ sym (was .has-key)) in
           marking act k .2 (ap (stepped s w step .mark) (sym at-curr) ∙ i .unmarked)
+
+  -- a key that stays in the set stays with its length: its node is the same
+  pub length-kept : {key : ℕ} (i : In s key) (j : In (stepped s w step) key) → stepped s w step .length (j .node) ≡ s .length (i .node)
+  length-kept i j = ⊎-elim same (λ new. absurd (not-new new)) (chain-before inv w act (j .chain))
+    where
+      same : Reach (s .next) 0 (j .node) → stepped s w step .length (j .node) ≡ s .length (i .node)
+      same chain =
+          let at : j .node ≡ i .node = once (inv .shape) chain (i .chain) (before j chain .has-key ∙ sym (i .has-key)) in
+          label-after inv w act (live-chain chain) .1 ∙ ap (s .length) at
+
+      not-new : (s .worker w .stage ≡ 15) × (j .node ≡ s .worker w .spare) → ⊥
+      not-new new =
+          let adds = adding act (new .0) in
+          let own = sym (j .has-key) ∙ ap (stepped s w step .key) (new .1) ∙ new-label adds .0 in
+          adds-key adds .0 (subst (In s) own i)
+
+  -- and a key that is added has what nodes keep of its length
+  pub length-added : Adds act → (j : In (stepped s w step) (s .worker w .key)) →
+      stepped s w step .length (j .node) ≡ keptLength s (s .worker w .length)
+  length-added k j =
+      ⊎-elim (λ chain. absurd (adds-key k .0 (before j chain))) (λ new. ap (stepped s w step .length) (new .1) ∙ new-label k .1)
+      (chain-before inv w act (j .chain))
 
   -- what is ahead of a live node stays ahead, or the key leaves the set
   pub ahead-after : {from key : ℕ} → Live nodes s from → Ahead s from key →

@@ -42,11 +42,12 @@ moved-unfinished (report.Finished answer) moves = sym moves
 abbrev pub Onward : State → ℕ → Worker → Worker → Type 0
 Onward s key before after = 22 ≤ after .stage → (22 ≤ before .stage) × (Ahead s (spot before) key → Ahead s (spot after) key)
 
--- the call goes on: its worker is busy with the same operation and key
+-- the call goes on: its worker is busy with the same operation, key and length
 pub record Continues (old new : Worker) : Type 0 where
   pub busy : new .stage ≢ 0
   pub operation : new .operation ≡ old .operation
   pub key : new .key ≡ old .key
+  pub length : new .length ≡ old .length
 
 module _ {nodes : ℕ} {s : State} {w : ℕ} {e : Effect} (act : Act nodes s w e) (new : Worker) where
   -- what a turn decides: the key goes in or out by this turn, or it is present or missing as the answer says; or a contains answers no,

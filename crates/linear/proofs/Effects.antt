@@ -10,7 +10,7 @@ use Rattle.worker.specs.declared.report.Effect.{Effect}
 use Rattle.worker.specs.declared.report.Effect.the-variants.{Nothing, SetOwner, SetNext, SetMark, Fill}
 use Rattle.words.specs.Layout.{nodeKey, nodeNext, nodeMark, nodeOwner}
 use Rattle.linear.proofs.Reach.{Reach, here, on, join, carry, same?, Skip, skip, skip-back}
-use Rattle.linear.proofs.State.{State, shapeOf, wordAfter}
+use Rattle.linear.proofs.State.{State, shapeOf, wordAfter, lengthAfter}
 use Rattle.linear.proofs.Promises.{Holds, in-pred, in-curr, in-spare, held, Live, Searching, Found, Gap, Filled, Hit, Bypassed}
 use Rattle.linear.proofs.Invariant.{Inv, Range, live-held, live-next, live-chain, not-tail, on-chain}
 
@@ -42,7 +42,7 @@ pub data Act (nodes : ℕ) (s : State) (w : ℕ) : Effect → Type 0 where
   owns : {n owner : ℕ} → s .worker w .stage ≢ 15 → (s .owner n ≡ 0) ⊎ (s .owner n ≡ suc w) → Act nodes s w (SetOwner n owner)
   fills : {n : ℕ} → s .worker w .stage ≢ 15 → n < nodes → (Live nodes s n → ⊥) → Range (s .worker w .key) →
       Gap nodes (shapeOf s) w (s .worker w .key) (s .worker w .pred) (s .worker w .curr) →
-      Act nodes s w (Fill n (s .worker w .key) (s .worker w .curr))
+      Act nodes s w (Fill n (s .worker w .key) (s .worker w .curr) (s .worker w .length))
   links : s .worker w .stage ≡ 15 → Range (s .worker w .key) →
       Filled nodes s w (s .worker w .key) (s .worker w .pred) (s .worker w .curr) (s .worker w .spare) →
       Act nodes s w (SetNext (s .worker w .pred) (s .worker w .spare))
@@ -58,7 +58,7 @@ Fills Nothing m = ⊥
 Fills (SetOwner n owner) m = ⊥
 Fills (SetNext n next) m = ⊥
 Fills (SetMark n) m = ⊥
-Fills (Fill n key next) m = m ≡ n
+Fills (Fill n key next length) m = m ≡ n
 
 module _ {nodes : ℕ} {s : State} (inv : Inv nodes s) (w : ℕ) where
   curr-live : {e pred : ℕ} → Searching nodes (shapeOf s) w e pred (s .worker w .curr) → Live nodes s (s .worker w .curr)
@@ -79,14 +79,19 @@ module _ {nodes : ℕ} {s : State} (inv : Inv nodes s) (w : ℕ) where
   inside-after (links c r f) n l = written (λ m. m < nodes) n _ _ _ (λ e. f .spare-in) (λ d. inv .shape .inside n l)
   inside-after (unlinks c r f) n l = written (λ m. m < nodes) n _ _ _ (λ e. spare-in f) (λ d. inv .shape .inside n l)
 
-  -- a live node keeps its key
+  -- a live node keeps its key and its length
+  pub label-after : {e : Effect} → Act nodes s w e → {n : ℕ} → Live nodes s n →
+      (wordAfter e n nodeKey (s .key n) ≡ s .key n) × (lengthAfter (s .lengths) e n (s .length n) ≡ s .length n)
+  label-after (quiet c) l = (refl, refl)
+  label-after (owns c o) l = (refl, refl)
+  label-after (marks c r f) l = (refl, refl)
+  label-after (fills c i free r f) {n} l =
+      let d : n ≢ _ = λ e. free (rw e at l) in (off-node n _ _ (s .key n) d, off-node n _ _ (s .length n) d)
+  label-after (links c r f) l = (refl, refl)
+  label-after (unlinks c r f) l = (refl, refl)
+
   pub key-after : {e : Effect} → Act nodes s w e → {n : ℕ} → Live nodes s n → wordAfter e n nodeKey (s .key n) ≡ s .key n
-  key-after (quiet c) l = refl
-  key-after (owns c o) l = refl
-  key-after (marks c r f) l = refl
-  key-after (fills c i free r f) {n} l = off-node n _ _ _ (λ e. free (rw e at l))
-  key-after (links c r f) l = refl
-  key-after (unlinks c r f) l = refl
+  key-after act l = label-after act l .0
 
   -- a live node leads to a live one, or to one that the worker holds
   pub leads-after : {e : Effect} → Act nodes s w e → {n : ℕ} → Live nodes s n → Known nodes s w (wordAfter e n nodeNext (s .next n))

@@ -1,22 +1,23 @@
 -- The fresh arena, decoded: Head and Tail, unused nodes, and idle workers.
 use Prim.Native.Nat.{ℕ, zero, suc, _+_, _-_, _≤_, _<_}
 use mathlib.Core.Path.{_≡_, refl, sym, ap, _∙_}
-use mathlib.Core.List.{List, [], _++_, flatten, append-nil}
+use mathlib.Core.List.{List, [], _∷_, _++_, flatten, append-nil}
 use mathlib.Core.Bool.{true}
 use native.Mathlib.Omega.{arith}
 use native.Mathlib.Decide.{decLt}
 use native.Mathlib.Nat.{mul-suc}
-use lib.ListN.{length, replicate, List·getD-append}
-use lib.Seq.{getD-append-add}
+use lib.ListN.{length, replicate, length-append, List·getD-append}
+use lib.Seq.{getD-append-add, getD-take}
 use Rattle.worker.specs.Node.{head, tail, headNode, tailNode, unusedNode}
 use Rattle.worker.specs.Worker.{idleWorker}
-use Rattle.words.specs.Layout.{word, workerFrom, workerWidth, slot, layoutNumber, goodCounts, headerWords, nodeWidth, nodeKey, nodeNext, nodeOwner, nodeFrom}
+use Rattle.words.specs.Layout.{word, workerFrom, workerWidth, slot, goodCounts, headerWords, nodeWidth, nodeKey, nodeNext, nodeOwner, nodeFrom}
 use Rattle.words.specs.Records.{workerWords, nodeWords, nodeAt}
 use Rattle.words.specs.Header.{headerRefusals}
 use Rattle.arena.specs.Init.{freshWorkers, freshNodes, freshWords}
-use Rattle.words.proofs.Bounds.{counts}
+use Rattle.words.proofs.Bounds.{Counts, counts, wide, narrow}
 use Rattle.words.proofs.Judged.{none-holds}
 use Rattle.words.proofs.HeaderLaws.{Header}
+use Rattle.words.proofs.RecordLaws.{node-long}
 use Rattle.arena.proofs.FreshLaws.{nodes-place, fresh-header}
 use Rattle.linear.proofs.State.{State, decode}
 use Rattle.linear.proofs.Words.{fieldIn, field-word, no-field}
@@ -24,12 +25,13 @@ use Rattle.linear.proofs.Stepped.{header-of, record-words, known-record
 use Rattle.linear.proofs.Bridge.{Sound}
 
 -- the fresh arena's header is in order
-pub fresh-sound : (workers nodes : ℕ) → goodCounts workers nodes ≡ true → Sound workers nodes (freshWords workers nodes)
+pub fresh-sound : (layout workers nodes : ℕ) → goodCounts layout workers nodes ≡ true → Sound layout workers nodes (freshWords layout workers nodes)
 unfolding freshWords headerWords
-fresh-sound workers nodes good =
+fresh-sound layout workers nodes good =
     record {
-      none = none-holds (headerRefusals (freshWords workers nodes)) []
-          (sym (rw append-nil at (fresh-header workers nodes [] good)));
+      none = none-holds (headerRefusals (freshWords layout workers nodes)) []
+          (sym (rw append-nil at (fresh-header layout workers nodes [] good)));
+      layout-is = refl;
       workers-are = refl;
       nodes-are = refl;
     }
@@ -58,41 +60,80 @@ copies-at values (suc count) (suc n) k there inside =
     (getD-append-add values (flatten (replicate count values)) (slot (length values) n k) 0
     ∙ copies-at values count n k (omega arith) inside)
 
-module _ (workers nodes : ℕ) (good : goodCounts workers nodes ≡ true) where
-  -- the fresh arena, and its header
+-- the fields of the node that a fresh arena has at a number
+abbrev freshFields : ℕ → List ℕ
+freshFields zero = 0 ∷ tail ∷ 0 ∷ 0 ∷ 0 ∷ []
+freshFields (suc zero) = 65535 ∷ tail ∷ 0 ∷ 0 ∷ 0 ∷ []
+freshFields (suc (suc n)) = 0 ∷ 0 ∷ 0 ∷ 0 ∷ 0 ∷ []
+
+-- where a field of a node stands among fresh nodes of some width, it is that node's
+module _ (width nodes : ℕ) (few : width ≤ 5) (some : 2 ≤ nodes) where
+  first : List ℕ
+  first = nodeWords width headNode ++ nodeWords width tailNode
+
+  others : List ℕ
+  others = flatten (replicate (nodes - 2) (nodeWords width unusedNode))
+
+  long : length first ≡ width + width
+  unfolding first
+  long = rw (length-append, node-long width headNode few, node-long width tailNode few)
+
+  laid-at : (n f : ℕ) → n < nodes → f < width → word (freshNodes width nodes) (slot width n f) ≡ word (freshFields n) f
+  unfolding freshNodes first others
+  laid-at zero f there room =
+      let place : slot width 0 f ≡ f = omega arith in
+      rw place
+      (List·getD-append first others 0 f (omega (arith, long))
+      ∙ List·getD-append (nodeWords width headNode) (nodeWords width tailNode) 0 f (omega (arith, node-long width headNode few))
+      ∙ getD-take width _ f 0 room)
+  laid-at (suc zero) f there room =
+      let place : slot width 1 f ≡ length (nodeWords width headNode) + f = omega (arith, node-long width headNode few) in
+      rw place
+      (List·getD-append first others 0 _ (omega (arith, long, node-long width headNode few))
+      ∙ getD-append-add (nodeWords width headNode) (nodeWords width tailNode) f 0
+      ∙ getD-take width _ f 0 room)
+  laid-at (suc (suc n)) f there room =
+      let wide = node-long width unusedNode few in
+      let place : slot width (suc (suc n)) f ≡ length first + slot (length (nodeWords width unusedNode)) n f
+      = rw (wide, mul-suc, mul-suc) (omega (arith, long)) in
+      rw place
+      (getD-append-add first others (slot (length (nodeWords width unusedNode)) n f) 0
+      ∙ copies-at (nodeWords width unusedNode) (nodes - 2) n f (omega arith) (omega (arith, wide))
+      ∙ getD-take width _ f 0 room)
+
+module _ (layout workers nodes : ℕ) (good : goodCounts layout workers nodes ≡ true) where
+  -- the fresh arena, its header, and its counts
   abbrev fresh : List ℕ
-  fresh = freshWords workers nodes
+  fresh = freshWords layout workers nodes
 
   order : Header fresh
-  order = header-of fresh (fresh-sound workers nodes good .none)
+  order = header-of fresh (fresh-sound layout workers nodes good .none)
+
+  known : Counts layout workers nodes
+  known = counts layout workers nodes good
 
   -- what stands before the nodes
   abbrev before : List ℕ
-  before = headerWords layoutNumber workers nodes ++ freshWorkers workers
+  before = headerWords layout workers nodes ++ freshWorkers workers
 
-  -- a field of a node that there is stands among the fresh nodes
-  node-field : (n f : ℕ) → n < nodes → f ≤ nodeOwner → fieldIn fresh n f ≡ word (freshNodes nodes) (slot (nodeWidth layoutNumber) n f)
+  -- a field of a node that there is
+  node-field : (n f : ℕ) → n < nodes → f < nodeWidth layout → fieldIn fresh n f ≡ word (freshFields n) f
   unfolding freshWords headerWords nodeFrom
   node-field n f there room =
-      let at = slot (nodeWidth layoutNumber) n f in
-      let place : workerFrom workers + at ≡ length before + at = omega (arith, nodes-place workers nodes) in
-      field-word fresh order n f there room ∙ ap (word fresh) place ∙ getD-append-add before (freshNodes nodes) at 0
+      let at = slot (nodeWidth layout) n f in
+      let place : workerFrom workers + at ≡ length before + at = omega (arith, nodes-place layout workers nodes) in
+      field-word fresh order n f there room
+      ∙ ap (word fresh) place
+      ∙ getD-append-add before (freshNodes (nodeWidth layout) nodes) at 0
+      ∙ laid-at (nodeWidth layout) nodes (narrow layout) (omega (arith, known)) n f there room
 
-  -- from node 2 on a field is 0 where an unused node's is
-  unused-field : (n f : ℕ) → 2 ≤ n → f ≤ nodeOwner → word (nodeWords unusedNode) f ≡ 0 → fieldIn fresh n f ≡ 0
-  unfolding freshWords headerWords freshNodes nodeWidth
-  unused-field n f far room zeros =
-      elim (decLt n nodes) [
-        | yes there ↦
-            let first = nodeWords headNode ++ nodeWords tailNode in
-            let at = slot (length (nodeWords unusedNode)) (n - 2) f in
-            let place : slot (nodeWidth layoutNumber) n f ≡ length first + at = omega arith in
-            node-field n f there room
-            ∙ ap (word (freshNodes nodes)) place
-            ∙ getD-append-add first (flatten (replicate (nodes - 2) (nodeWords unusedNode))) at 0
-            ∙ copies-at (nodeWords unusedNode) (nodes - 2) (n - 2) f (omega arith) (omega arith)
-            ∙ zeros
-        | no gone ↦ no-field fresh order n f (omega arith)
+  -- from node 2 on every field is 0, whether there is such a node or not
+  unused-field : (n f : ℕ) → f < nodeWidth layout → word (freshFields (suc (suc n))) f ≡ 0 → fieldIn fresh (suc (suc n)) f ≡ 0
+  unfolding freshWords headerWords
+  unused-field n f room zeros =
+      elim (decLt (suc (suc n)) nodes) [
+        | yes there ↦ node-field (suc (suc n)) f there room ∙ zeros
+        | no gone ↦ no-field fresh order (suc (suc n)) f (omega arith)
       ]
 
   -- every worker is idle
@@ -107,32 +148,42 @@ module _ (workers nodes : ℕ) (good : goodCounts workers nodes ≡ true) where
       words : v < workers → (k : ℕ) → k < workerWidth → word fresh (workerFrom v + k) ≡ word (workerWords idleWorker) k
       words there k inside =
           let at = slot workerWidth v k in
-          let header = headerWords layoutNumber workers nodes in
+          let header = headerWords layout workers nodes in
           let place : workerFrom v + k ≡ length header + at = omega arith in
-          List·getD-append before (freshNodes nodes) 0 (workerFrom v + k) (omega (arith, nodes-place workers nodes))
+          List·getD-append before (freshNodes (nodeWidth layout) nodes) 0 (workerFrom v + k) (omega (arith, nodes-place layout workers nodes))
           ∙ ap (word before) place
           ∙ getD-append-add header (freshWorkers workers) at 0
           ∙ copies-at (workerWords idleWorker) workers v k there inside
 
 -- so the fresh arena decodes to a fresh state
-pub fresh-state : (workers nodes : ℕ) → goodCounts workers nodes ≡ true → FreshState (decode (freshWords workers nodes))
-unfolding nodeAt freshNodes nodeWidth
-fresh-state workers nodes good =
-    let known = counts workers nodes good in
+pub fresh-state : (layout workers nodes : ℕ) → goodCounts layout workers nodes ≡ true → FreshState (decode (freshWords layout workers nodes))
+unfolding nodeAt
+fresh-state layout workers nodes good =
     record {
-      head-key = node-field workers nodes good head nodeKey (omega arith) (omega arith);
-      head-next = node-field workers nodes good head nodeNext (omega arith) (omega arith);
-      tail-key = node-field workers nodes good tail nodeKey (omega arith) (omega arith);
-      tail-next = node-field workers nodes good tail nodeNext (omega arith) (omega arith);
-      unused = λ n far. (
-        unused-field workers nodes good n nodeKey far (omega arith) refl,
-        unused-field workers nodes good n nodeNext far (omega arith) refl,
-      );
+      head-key = one head nodeKey (omega arith) (omega arith);
+      head-next = one head nodeNext (omega arith) (omega arith);
+      tail-key = one tail nodeKey (omega arith) (omega arith);
+      tail-next = one tail nodeNext (omega arith) (omega arith);
+      unused = unused;
       unowned = unowned;
-      idle = idle-record workers nodes good;
+      idle = idle-record layout workers nodes good;
     }
   where
-    unowned : (n : ℕ) → decode (freshWords workers nodes) .owner n ≡ 0
-    unowned zero = node-field workers nodes good head nodeOwner (omega (arith, counts workers nodes good)) (omega arith)
-    unowned (suc zero) = node-field workers nodes good tail nodeOwner (omega (arith, counts workers nodes good)) (omega arith)
-    unowned (suc (suc n)) = unused-field workers nodes good (suc (suc n)) nodeOwner (omega arith) (omega arith) refl
+    four : 4 ≤ nodeWidth layout
+    four = wide (known layout workers nodes good)
+
+    one : (n f : ℕ) → n ≤ 1 → f ≤ nodeOwner → fieldIn (freshWords layout workers nodes) n f ≡ word (freshFields n) f
+    one n f low room = node-field layout workers nodes good n f (omega (arith, known layout workers nodes good)) (omega (arith, four))
+
+    unused : (n : ℕ) → 2 ≤ n → (decode (freshWords layout workers nodes) .key n ≡ 0) × (decode (freshWords layout workers nodes) .next n ≡ 0)
+    unused zero far = absurd (omega arith)
+    unused (suc zero) far = absurd (omega arith)
+    unused (suc (suc n)) far = (
+      unused-field layout workers nodes good n nodeKey (omega (arith, four)) refl,
+      unused-field layout workers nodes good n nodeNext (omega (arith, four)) refl,
+    )
+
+    unowned : (n : ℕ) → decode (freshWords layout workers nodes) .owner n ≡ 0
+    unowned zero = one head nodeOwner (omega arith) (omega arith)
+    unowned (suc zero) = one tail nodeOwner (omega arith) (omega arith)
+    unowned (suc (suc n)) = unused-field layout workers nodes good n nodeOwner (omega (arith, four)) refl

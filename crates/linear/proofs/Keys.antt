@@ -1,20 +1,24 @@
 -- The set at each time, and how an entry changes it.
 use Prim.Native.Nat.{ℕ, suc}
-use mathlib.Core.Path.{_≡_, refl, sym, subst}
+use mathlib.Core.Path.{_≡_, refl, sym, ap, subst, _∙_}
 use mathlib.Core.Logic.{_⊎_, inl, inr, ⊎-elim}
-use mathlib.Core.Bool.{Bool, true, false, not, _&&_, _||_}
+use mathlib.Core.Bool.{Bool, true, false, cond, not, _&&_, _||_}
+use mathlib.Core.Option.{none, some}
 use mathlib.Mathlib.Data.Bool.Basic.{dichotomy}
 use native.Mathlib.Omega.{arith}
 use lib.Dec.{eqb}
 use borrow.Author.Tests.{eqb-true, eqb-false}
 use Rattle.worker.specs.declared.report.Step.{Step}
-use Rattle.linear.proofs.State.{decode, stepped, startStep}
+use Rattle.arena.specs.Snapshot.{isNone}
+use Rattle.linear.specs.Sets.{setOf}
+use Rattle.linear.proofs.LabelLaws.{member-find, absent-find}
+use Rattle.linear.proofs.State.{State, keptLength, decode, stepped, startStep}
 use Rattle.linear.proofs.Promises.{Live}
 use Rattle.linear.proofs.Invariant.{In, Ahead, Inv}
 use Rattle.linear.proofs.Effects.{Act, quiet}
-use Rattle.linear.proofs.Members.{set-in}
-use Rattle.linear.proofs.Changes.{Keeps, Adds, Takes, keeps-set, adds-key, takes-key, ahead-after}
-use Rattle.linear.proofs.Timeline.{has, Happens, nothing, start, turn, sound, always, happens, Schedule, state, entry}
+use Rattle.linear.proofs.Members.{found-in, set-in}
+use Rattle.linear.proofs.Changes.{Keeps, Adds, Takes, keeps-set, adds-key, takes-key, length-kept, length-added, ahead-after}
+use Rattle.linear.proofs.Timeline.{has, label, Happens, nothing, start, turn, sound, always, happens, Schedule, arena, state, entry}
 
 -- two tests that hold together are the same
 same-test : (a b : Bool) → (a ≡ true → b ≡ true) → (b ≡ true → a ≡ true) → a ≡ b
@@ -34,6 +38,22 @@ module _ (r : Schedule) where
   pub absent-of : (time key : ℕ) → (In (state r time) key → ⊥) → has r time key ≡ false
   absent-of time key out =
       ⊎-elim (λ absent. absent) (λ present. absurd (out (present-in time key present))) (dichotomy (has r time key))
+
+  -- of a key in the set the length of its node is found, and of no other
+  found-at : (time key : ℕ) (i : In (state r time) key) → label r time key ≡ some (state r time .length (i .node))
+  found-at time key i = found-in (sound r time) (always r time) i
+
+  pub not-found : (time key : ℕ) → has r time key ≡ false → label r time key ≡ none
+  not-found time key absent = absent-find key (setOf (arena r time)) absent
+
+  -- membership, by what is found
+  pub none-found : (time key : ℕ) {present : Bool} → has r time key ≡ present → isNone (label r time key) ≡ not present
+  none-found time key e =
+      sym (not-not (isNone (label r time key))) ∙ ap not (sym (member-find key (setOf (arena r time))) ∙ e)
+    where
+      not-not : (t : Bool) → not (not t) ≡ t
+      not-not true = refl
+      not-not false = refl
 
   module _ (time : ℕ) (w : ℕ) (step : Step) (act : Act (r .nodes) (state r time) w (step .effect))
       (next : state r (suc time) ≡ stepped (state r time) w step) where
@@ -88,6 +108,51 @@ module _ (r : Schedule) where
             same-test _ _ (λ h. in-present time key (takes-key inv w step act takes .2 key (next-in key h) .0))
             (λ h. in-next key (takes-key inv w step act takes .1 key (eqb-false key own e) (present-in time key h)))
 
+    -- of a key that is in the state after the step its length there is found
+    found-next : (key : ℕ) (j : In (stepped (state r time) w step) key) →
+        label r (suc time) key ≡ some (stepped (state r time) w step .length (j .node))
+    found-next key =
+        subst (λ (s : State). (j : In s key) → label r (suc time) key ≡ some (s .length (j .node))) next (found-at (suc time) key)
+
+    -- a key that stays in the set, or out of it, stays with its length
+    label-same : (key : ℕ) → has r (suc time) key ≡ has r time key → label r (suc time) key ≡ label r time key
+    label-same key same = go (has r time key) refl
+      where
+        go : (present : Bool) → has r time key ≡ present → label r (suc time) key ≡ label r time key
+        go true e =
+            let i = present-in time key e in
+            let j = next-in key (same ∙ e) in
+            found-next key j ∙ ap some (length-kept inv w step act i j) ∙ sym (found-at time key i)
+        go false e = not-found (suc time) key (same ∙ e) ∙ sym (not-found time key e)
+
+    -- so the labels are kept, gain the worker's, or lose it
+    pub label-kept : Keeps act → (key : ℕ) → label r (suc time) key ≡ label r time key
+    label-kept keeps key = label-same key (has-kept keeps key)
+
+    pub label-added : Adds act → (key : ℕ) → label r (suc time) key
+        ≡ cond (eqb key (state r time .worker w .key)) (some (keptLength (state r time) (state r time .worker w .length))) (label r time key)
+    label-added adds key = by (eqb key own) refl
+      where
+        own : ℕ
+        own = state r time .worker w .key
+
+        by : (is : Bool) → eqb key own ≡ is →
+            label r (suc time) key ≡ cond is (some (keptLength (state r time) (state r time .worker w .length))) (label r time key)
+        by true e =
+            let j = adds-key inv w step act adds .1 in
+            ap (label r (suc time)) (eqb-true key own e) ∙ found-next own j ∙ ap some (length-added inv w step act adds j)
+        by false e = label-same key (has-added adds .1 key ∙ rw e)
+
+    pub label-taken : Takes act → (key : ℕ) → label r (suc time) key ≡ cond (eqb key (state r time .worker w .key)) none (label r time key)
+    label-taken takes key = by (eqb key own) refl
+      where
+        own : ℕ
+        own = state r time .worker w .key
+
+        by : (is : Bool) → eqb key own ≡ is → label r (suc time) key ≡ cond is none (label r time key)
+        by true e = not-found (suc time) key (has-taken takes .1 key ∙ rw e)
+        by false e = label-same key (has-taken takes .1 key ∙ rw e)
+
     ahead-kept : {from key : ℕ} → Live (r .nodes) (state r time) from → Ahead (state r time) from key →
         Ahead (state r (suc time)) from key ⊎ (has r (suc time) key ≡ false)
     ahead-kept {from} {key} live ahead =
@@ -95,10 +160,13 @@ module _ (r : Schedule) where
         (λ out. inr (absent-of (suc time) key (λ i. out (subst (λ s. In s key) next i)))) (ahead-after inv w step act live ahead)
 
   -- a start keeps the set
-  pub has-started : (time w operation key : ℕ) → state r time .worker w .stage ≡ 0 →
-      state r (suc time) ≡ stepped (state r time) w (startStep operation key) →
-      (other : ℕ) → has r (suc time) other ≡ has r time other
-  has-started time w operation key idle next = has-kept time w (startStep operation key) (quiet (omega arith)) next tt
+  module _ (time w operation key length : ℕ) (idle : state r time .worker w .stage ≡ 0)
+      (next : state r (suc time) ≡ stepped (state r time) w (startStep operation key length)) where
+    pub has-started : (other : ℕ) → has r (suc time) other ≡ has r time other
+    has-started = has-kept time w (startStep operation key length) (quiet (omega arith)) next tt
+
+    pub label-started : (other : ℕ) → label r (suc time) other ≡ label r time other
+    label-started = label-kept time w (startStep operation key length) (quiet (omega arith)) next tt
 
   -- whatever happens, what is ahead of a live node stays ahead, or the key is absent then
   pub ahead-on : (time : ℕ) {from key : ℕ} → Live (r .nodes) (state r time) from →
@@ -111,5 +179,5 @@ module _ (r : Schedule) where
       go (nothing unstarted unreported unfinished same) = inl (subst (λ arena. Ahead (decode arena) from key) (sym same) ahead)
       go (start event idle call known next) =
           ahead-kept time (entry r time .worker)
-          (startStep (entry r time .act) (entry r time .key)) (quiet (omega arith)) next live ahead
+          (startStep (entry r time .act) (entry r time .key) (entry r time .length)) (quiet (omega arith)) next live ahead
       go (turn step event row idle next) = ahead-kept time (entry r time .worker) step (row .act) next live ahead

@@ -4,7 +4,7 @@ use mathlib.Core.Path.{_≡_, sym, ap, subst, _∙_}
 use mathlib.Core.List.{List, [], _++_}
 use mathlib.Core.Bool.{true}
 use lib.ListN.{drop}
-use Rattle.words.specs.Layout.{layoutNumber, total, goodCounts, headerWords}
+use Rattle.words.specs.Layout.{total, goodCounts, headerWords}
 use Rattle.words.specs.Replies.{accepted}
 use Rattle.arena.specs.Init.{freshWords, initRefusals, initAnswer, initArena}
 use Rattle.words.proofs.Judged.{judged-accepted}
@@ -21,37 +21,38 @@ use Rattle.linear.proofs.Rests.{all-rest}
 use Rattle.linear.proofs.Waiting.{all-blocked}
 use Rattle.linear.proofs.Theorem.{proved, unmet, sets-exact}
 
-module _ (lent : List ℕ) (workers nodes : ℕ) (entries : List Entry) (accepts : initAnswer lent workers nodes ≡ accepted []) where
-  good : goodCounts workers nodes ≡ true
+module _ (lent : List ℕ) (layout workers nodes : ℕ) (entries : List Entry) (accepts : initAnswer lent layout workers nodes ≡ accepted []) where
+  good : goodCounts layout workers nodes ≡ true
   unfolding initAnswer
-  good = init-passed lent workers nodes (sym accepts) .0
+  good = init-passed lent layout workers nodes (sym accepts) .0
 
   -- what init leaves: a fresh arena, and the words past the total
   abbrev fresh : List ℕ
-  fresh = freshWords workers nodes
+  fresh = freshWords layout workers nodes
 
   abbrev past : List ℕ
-  past = drop (total layoutNumber workers nodes) lent
+  past = drop (total layout workers nodes) lent
 
-  left : initArena lent workers nodes ≡ fresh ++ past
+  left : initArena lent layout workers nodes ≡ fresh ++ past
   unfolding initArena initAnswer
-  left = judged-accepted (initRefusals lent workers nodes) [] (λ number. lent) _ (sym accepts)
+  left = judged-accepted (initRefusals lent layout workers nodes) [] (λ number. lent) _ (sym accepts)
 
   -- it is in order and fresh
-  left-sound : Sound workers nodes (initArena lent workers nodes)
+  left-sound : Sound layout workers nodes (initArena lent layout workers nodes)
   unfolding freshWords headerWords
-  left-sound = subst (Sound workers nodes) (sym left) (sound-longer fresh past (fresh-sound workers nodes good .none))
+  left-sound = subst (Sound layout workers nodes) (sym left) (sound-longer fresh past (fresh-sound layout workers nodes good .none))
 
-  left-fresh : FreshState (decode (initArena lent workers nodes))
+  left-fresh : FreshState (decode (initArena lent layout workers nodes))
   left-fresh =
-      subst FreshState (sym (ap decode left ∙ state-same fresh past (fresh-sound workers nodes good .none))) (fresh-state workers nodes good)
+      subst FreshState (sym (ap decode left ∙ state-same fresh past (fresh-sound layout workers nodes good .none))) (fresh-state layout workers nodes good)
 
   abbrev r : Schedule
   r =
       record {
+        layout = layout;
         workers = workers;
         nodes = nodes;
-        initial = initArena lent workers nodes;
+        initial = initArena lent layout workers nodes;
         entries = entries;
         good = good;
         in-order = left-sound;
@@ -61,22 +62,22 @@ module _ (lent : List ℕ) (workers nodes : ℕ) (entries : List Entry) (accepts
   -- from time to time the words past the total are not looked at, and stay
   unseen-at : (time : ℕ) (entry : Entry) → Unseen (arenaAt fresh entries time) past entry
   unseen-at time entry =
-      unseen (arenaAt fresh entries time) past (sound (freshSchedule workers nodes entries good) time .none) entry
+      unseen (arenaAt fresh entries time) past (sound (freshSchedule layout workers nodes entries good) time .none) entry
 
-  same-words : (time : ℕ) → arenaAt (initArena lent workers nodes) entries time ≡ arenaAt fresh entries time ++ past
+  same-words : (time : ℕ) → arenaAt (initArena lent layout workers nodes) entries time ≡ arenaAt fresh entries time ++ past
   unfolding arenaAt
   same-words zero = left
   same-words (suc time) =
       let entry = entryAt entries (suc time) in
       ap (λ words. after words entry) (same-words time) ∙ unseen-at time entry .same-words
 
-  same-events : (time : ℕ) → eventAt (initArena lent workers nodes) entries time ≡ eventAt fresh entries time
+  same-events : (time : ℕ) → eventAt (initArena lent layout workers nodes) entries time ≡ eventAt fresh entries time
   unfolding eventAt
   same-events time =
       let entry = entryAt entries time in
       ap (λ words. eventOf words entry) (same-words (time - 1)) ∙ unseen-at (time - 1) entry .same-event
 
-  goes-as-fresh : AsFresh lent workers nodes entries
+  goes-as-fresh : AsFresh lent layout workers nodes entries
   goes-as-fresh =
       record {
         events = same-events;

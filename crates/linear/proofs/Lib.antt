@@ -2,6 +2,7 @@
 pub mod ListLaws
 pub mod Times
 pub mod OrderLaws
+pub mod LabelLaws
 pub mod SetLaws
 pub mod SequentialLaws
 pub mod Simulation

@@ -20,13 +20,15 @@ use Rattle.worker.specs.declared.report.Turned.{Turned}
 use Rattle.worker.specs.declared.report.Turned.the-variants.{Refused, Done}
 use Rattle.worker.proofs.RefusalLaws.{NoneHolds, judged-append, none-accepts}
 use Rattle.worker.proofs.EffectLaws.{EffectBelow}
-use Rattle.words.specs.Layout.{word, headerWidth, workerFrom, nodeWidth, workersOf, nodesOf, nodesFromOf, totalOf, nodePart, nodeFrom, nodeKey, nodeNext, nodeMark, nodeOwner}
-use Rattle.words.specs.Records.{workerAt, workerWords, withWorker, nodeWords, nodeAt}
+use Rattle.words.specs.Layout.{word, headerWidth, workerFrom, nodeWidth, layoutOf, workersOf, nodesOf, nodesFromOf, totalOf, nodePart, nodeFrom, nodeKey, nodeNext, nodeMark, nodeOwner, hasLength}
+use Rattle.words.specs.Records.{workerAt, workerWords, withWorker, nodeWords, withNode, nodeAt}
 use Rattle.words.specs.Replies.{Reply, refused, accepted, replied}
 use Rattle.words.specs.Header.{headerRefusals}
 use Rattle.arena.specs.Start.{callRefusals, startRefusals, startArena}
+use Rattle.words.proofs.Bounds.{wide, narrow}
 use Rattle.words.proofs.HeaderLaws.{Header}
 use Rattle.words.proofs.Judged.{none-holds, judged-refused, judged-accepted}
+use Rattle.words.proofs.RecordLaws.{node-long}
 use Rattle.words.proofs.Runs.{sets-front}
 use Rattle.lazy.specs.Turn.{outcomeOf, seenOf, seenBy, turnOn, withEffect, turnedArena, turnArena}
 use Rattle.lazy.proofs.TurnLaws.{turn-accepted}
@@ -55,12 +57,17 @@ module _ (arena more : List ℕ) (none : NoneHolds (headerRefusals arena)) where
   none-longer : NoneHolds (headerRefusals longer)
   none-longer = none-same arena longer header-word (rw length-append (omega arith)) none
 
-  sound-here : Sound (workersOf arena) (nodesOf arena) arena
-  sound-here = record { none = none; workers-are = refl; nodes-are = refl }
+  sound-here : Sound (layoutOf arena) (workersOf arena) (nodesOf arena) arena
+  sound-here = record { none = none; layout-is = refl; workers-are = refl; nodes-are = refl }
 
-  pub sound-longer : Sound (workersOf arena) (nodesOf arena) (arena ++ more)
+  pub sound-longer : Sound (layoutOf arena) (workersOf arena) (nodesOf arena) (arena ++ more)
   sound-longer =
-      record { none = none-longer; workers-are = header-word 1 (omega arith); nodes-are = header-word 2 (omega arith) }
+      record {
+        none = none-longer;
+        layout-is = header-word 0 (omega arith);
+        workers-are = header-word 1 (omega arith);
+        nodes-are = header-word 2 (omega arith);
+      }
 
   -- so are the records of the workers, and the nodes
   record-same : (v : ℕ) → v < workersOf arena → workerAt longer v ≡ workerAt arena v
@@ -88,6 +95,8 @@ module _ (arena more : List ℕ) (none : NoneHolds (headerRefusals arena)) where
         next = λ n. node n .next;
         mark = λ n. node n .mark;
         owner = λ n. node n .owner;
+        length = λ n. node n .length;
+        lengths = hasLength (nodeWidth (header-word 0 (omega arith) i));
         worker = fun-ext (λ v. worker-same arena longer header-word v (record-same v)) i;
       }
 
@@ -115,7 +124,7 @@ module _ (arena more : List ℕ) (none : NoneHolds (headerRefusals arena)) where
       ]
 
   -- it writes at the same places, all before the further words
-  field-longer : (node field value : ℕ) → node < nodesOf arena → field ≤ nodeOwner →
+  field-longer : (node field value : ℕ) → node < nodesOf arena → field < nodeWidth (layoutOf arena) →
       set longer (nodeFrom longer node field) value ≡ set arena (nodeFrom arena node field) value ++ more
   field-longer node field value below fits =
       let inside = field-inside arena node field order below fits in
@@ -123,15 +132,18 @@ module _ (arena more : List ℕ) (none : NoneHolds (headerRefusals arena)) where
       ∙ set-append-left arena more (nodeFrom arena node field) value (omega (arith, order .whole))
 
   effect-longer : (e : Effect) → EffectBelow (nodesOf arena) e → withEffect longer e ≡ withEffect arena e ++ more
-  unfolding withEffect nodeFrom
+  unfolding withEffect withNode nodeFrom
   effect-longer Nothing below = refl
-  effect-longer (SetOwner node owner) below = field-longer node nodeOwner owner below (omega arith)
-  effect-longer (SetNext node next) below = field-longer node nodeNext next below (omega arith)
-  effect-longer (SetMark node) below = field-longer node nodeMark 1 below (omega arith)
-  effect-longer (Fill node key next) below =
-      let inside = field-inside arena node nodeOwner order below (omega arith) in
-      ap (λ at. sets longer at (nodeWords (newNode key next))) (place-same arena longer header-word node nodeKey)
-      ∙ sets-front (nodeWords (newNode key next)) arena more (nodeFrom arena node nodeKey) (omega (arith, order .whole))
+  effect-longer (SetOwner node owner) below = field-longer node nodeOwner owner below (omega (arith, wide (order .good)))
+  effect-longer (SetNext node next) below = field-longer node nodeNext next below (omega (arith, wide (order .good)))
+  effect-longer (SetMark node) below = field-longer node nodeMark 1 below (omega (arith, wide (order .good)))
+  effect-longer (Fill node key next length) below =
+      let filled = newNode key next length in
+      let width = nodeWidth (layoutOf arena) in
+      let last = field-inside arena node (width - 1) order below (omega (arith, wide (order .good))) in
+      (λ i. sets longer (place-same arena longer header-word node nodeKey i) (nodeWords (nodeWidth (header-word 0 (omega arith) i)) filled))
+      ∙ sets-front (nodeWords width filled) arena more (nodeFrom arena node nodeKey)
+      (omega (arith, order .whole, node-long width filled (narrow (layoutOf arena)), wide (order .good)))
 
   record-longer : (words : List ℕ) (w : ℕ) (to : Worker) → length words ≡ length arena → w < workersOf arena →
       withWorker (words ++ more) w to ≡ withWorker words w to ++ more
@@ -150,35 +162,35 @@ module _ (arena more : List ℕ) (none : NoneHolds (headerRefusals arena)) where
           ∙ record-longer (withEffect arena (step .effect)) w (step .worker) (effect-long arena (step .effect)) (turn-accepted arena w e .known)
 
   -- a start is judged the same
-  module _ (w operation key : ℕ) where
+  module _ (w operation key length : ℕ) where
     call-judged : {A : Type 0} (refuse : ℕ → A) (accept : A) →
-        judged (callRefusals longer w operation key) refuse accept ≡ judged (callRefusals arena w operation key) refuse accept
+        judged (callRefusals longer w operation key length) refuse accept ≡ judged (callRefusals arena w operation key length) refuse accept
     unfolding callRefusals
     call-judged refuse accept =
         elim (decLt w (workersOf arena)) [
-          | yes known ↦ rw (record-same w known, header-word 1 (omega arith))
-          | no unknown ↦ rw (header-word 1 (omega arith), le-leb (workersOf arena) w (omega arith))
+          | yes known ↦ rw (record-same w known, header-word 0 (omega arith), header-word 1 (omega arith))
+          | no unknown ↦ rw (header-word 0 (omega arith), header-word 1 (omega arith), le-leb (workersOf arena) w (omega arith))
         ]
 
     start-judged : {A : Type 0} (refuse : ℕ → A) (accept : A) →
-        judged (startRefusals longer w operation key) refuse accept ≡ judged (startRefusals arena w operation key) refuse accept
+        judged (startRefusals longer w operation key length) refuse accept ≡ judged (startRefusals arena w operation key length) refuse accept
     unfolding startRefusals
     start-judged refuse accept =
-        judged-append (headerRefusals longer) (callRefusals longer w operation key) refuse accept
+        judged-append (headerRefusals longer) (callRefusals longer w operation key length) refuse accept
         ∙ none-accepts (headerRefusals longer) refuse _ none-longer
         ∙ call-judged refuse accept
         ∙ sym (none-accepts (headerRefusals arena) refuse _ none)
-        ∙ sym (judged-append (headerRefusals arena) (callRefusals arena w operation key) refuse accept)
+        ∙ sym (judged-append (headerRefusals arena) (callRefusals arena w operation key length) refuse accept)
 
-    start-longer : startArena longer w operation key ≡ startArena arena w operation key ++ more
+    start-longer : startArena longer w operation key length ≡ startArena arena w operation key length ++ more
     unfolding startArena startRefusals callRefusals headerRefusals
     start-longer = start-judged (λ number. longer) (withWorker longer w started) ∙ go (replied refusals []) refl
       where
         started : Worker
-        started = startedWorker operation key
+        started = startedWorker operation key length
 
         refusals : List Refusal
-        refusals = startRefusals arena w operation key
+        refusals = startRefusals arena w operation key length
 
         go : (reply : Reply) → reply ≡ replied refusals [] →
             judged refusals (λ number. longer) (withWorker longer w started)
@@ -204,8 +216,8 @@ module _ (arena more : List ℕ) (none : NoneHolds (headerRefusals arena)) where
           record { same-event = rw e (ap (λ t. turnEvent (outcomeOf t)) (turn-same w)); same-words = rw e (turn-longer w) }
       go false e =
           record {
-            same-event = rw e (start-judged w (entry .act) (entry .key) entryRefused callStarted);
-            same-words = rw e (start-longer w (entry .act) (entry .key));
+            same-event = rw e (start-judged w (entry .act) (entry .key) (entry .length) entryRefused callStarted);
+            same-words = rw e (start-longer w (entry .act) (entry .key) (entry .length));
           }
 
 -- for every arena that passes the header test

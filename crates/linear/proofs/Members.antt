@@ -1,16 +1,17 @@
--- The keys of an arena's set are those of the set of the state that it decodes to.
+-- The labels of an arena's set are those of the set of the state that it decodes to.
 use Prim.Native.Nat.{ℕ, _<_}
-use mathlib.Core.Path.{_≡_, refl}
-use mathlib.Core.Logic.{_≢_, _↔_, Iff·trans}
+use mathlib.Core.Path.{_≡_, refl, ap, _∙_}
+use mathlib.Core.Logic.{_≢_, _↔_}
 use mathlib.Core.List.{List}
 use mathlib.Core.Bool.{true}
+use mathlib.Core.Option as option
 use native.Mathlib.Decide.{ℕ-discrete}
 use native.Mathlib.Omega.{arith}
 use Rattle.worker.specs.Node.{head, tail}
 use Rattle.words.specs.Layout.{nodesOf}
-use Rattle.linear.specs.Lists.{member}
-use Rattle.linear.specs.Sets.{ChainWhole, setOf, OnChain, top, link, InSet}
-use Rattle.linear.proofs.SetLaws.{chain-whole, set-members}
+use Rattle.linear.specs.Sets.{Label, member, ChainWhole, setOf, OnChain, top, link, InSet}
+use Rattle.linear.proofs.LabelLaws.{find, labelled, member-find, present-find, from-find, in-find}
+use Rattle.linear.proofs.SetLaws.{chain-whole, set-rises, set-members}
 use Rattle.linear.proofs.Reach.{Reach, here, one-more, along}
 use Rattle.linear.proofs.State.{decode}
 use Rattle.linear.proofs.Bridge.{Sound}
@@ -33,7 +34,7 @@ run-chain {next} {count} some inside loops r = along (OnChain next count) onward
     onward : (n : ℕ) → OnChain next count n → OnChain next count (next n)
     onward n on = elim (ℕ-discrete n tail) [ yes e ↦ rw (e, loops) (rw e at on) | no more ↦ link on more (inside n (below on)) ]
 
-module _ {workers nodes : ℕ} {arena : List ℕ} (sound : Sound workers nodes arena) (inv : Inv nodes (decode arena)) where
+module _ {layout workers nodes : ℕ} {arena : List ℕ} (sound : Sound layout workers nodes arena) (inv : Inv nodes (decode arena)) where
   -- there is a Head
   some : head < nodesOf arena
   some = omega (arith, inv .shape .room, sound .nodes-are)
@@ -48,8 +49,8 @@ module _ {workers nodes : ℕ} {arena : List ℕ} (sound : Sound workers nodes a
           let live = live-chain (chain-run on) in
           (rw (sound .nodes-are) (inv .shape .inside n (live-in (inv .shape) live)), inv .shape .rises n live more)
 
-  -- the two ways to say that a key is in the set
-  forth : {key : ℕ} → InSet arena key → In (decode arena) key
+  -- the two ways to say that a label is in the set
+  forth : {key length : ℕ} → InSet arena (labelled key length) → In (decode arena) key
   forth i =
       record {
         node = i .node;
@@ -57,10 +58,10 @@ module _ {workers nodes : ℕ} {arena : List ℕ} (sound : Sound workers nodes a
         not-head = i .not-head;
         not-tail = i .not-tail;
         unmarked = i .unmarked;
-        has-key = i .has-key;
+        has-key = ap (λ (label : Label). label .key) (i .has-label);
       }
 
-  back : {key : ℕ} → In (decode arena) key → InSet arena key
+  back : {key : ℕ} (i : In (decode arena) key) → InSet arena (labelled key (decode arena .length (i .node)))
   back i =
       record {
         node = i .node;
@@ -68,9 +69,16 @@ module _ {workers nodes : ℕ} {arena : List ℕ} (sound : Sound workers nodes a
         not-head = i .not-head;
         not-tail = i .not-tail;
         unmarked = i .unmarked;
-        has-key = i .has-key;
+        has-label = λ j. labelled (i .has-key j) (decode arena .length (i .node));
       }
 
-  -- so the set has the same keys either way
+  -- so of a key in the set the length of its node is found
+  pub found-in : {key : ℕ} (i : In (decode arena) key) → find key (setOf arena) ≡ option.some (decode arena .length (i .node))
+  found-in i = in-find (set-rises arena) (set-members arena whole _ .1 (back i))
+
+  -- and the set has the same keys either way
   pub set-in : (key : ℕ) → (member key (setOf arena) ≡ true) ↔ In (decode arena) key
-  set-in key = Iff·trans (set-members arena whole key) (forth, back)
+  set-in key = (
+    λ present. let it = present-find key (setOf arena) present in forth (set-members arena whole _ .0 (from-find key (it .0) (setOf arena) (it .1))),
+    λ i. member-find key (setOf arena) ∙ rw (found-in i),
+  )

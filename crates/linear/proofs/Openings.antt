@@ -10,7 +10,6 @@ use borrow.Author.Tests.{ne-eqb}
 use Rattle.worker.specs.Worker.{contains}
 use Rattle.worker.specs.declared.Worker.{Worker}
 use Rattle.worker.specs.declared.report.Step.{Step}
-use Rattle.linear.specs.Lists.{member}
 use Rattle.linear.specs.Sets.{setOf}
 use Rattle.linear.specs.Entries.{turnReported, isStarted}
 use Rattle.linear.specs.History.{Call, isDecision, arenaAt, calls}
@@ -18,12 +17,13 @@ use Rattle.linear.specs.Order.{hasPoint, rank, inOrder}
 use Rattle.linear.proofs.ListLaws.{in-filter, in-map, in-times}
 use Rattle.linear.proofs.OrderLaws.{in-sorted}
 use Rattle.linear.proofs.Simulation.{does-early}
+use Rattle.linear.proofs.LabelLaws.{find}
 use Rattle.linear.proofs.Reach.{here}
 use Rattle.linear.proofs.State.{State, decode, stepped}
 use Rattle.linear.proofs.After.{own-after, others-after}
 use Rattle.linear.proofs.Course.{Row, Verdict, goes-in, goes-out, present, missing, late as late-verdict, Course, rests, goes-on, settles, ends}
-use Rattle.linear.proofs.Timeline.{Begun, begun-at, has, Happens, nothing, start, turn, always, happens, Schedule, arena, state, last, entry, outcome, starts-at, call-at, in-order-of}
-use Rattle.linear.proofs.Keys.{has-kept, has-started}
+use Rattle.linear.proofs.Timeline.{Begun, begun-at, label, Happens, nothing, start, turn, always, happens, Schedule, arena, state, last, entry, outcome, starts-at, call-at, in-order-of}
+use Rattle.linear.proofs.Keys.{label-kept, label-started}
 use Rattle.linear.proofs.Phases.{Decided, Phase, runs, closes, finished, phase-at, decided-now}
 use Rattle.linear.proofs.Points.{waits, acted, looked, Fate, fate}
 use Rattle.linear.proofs.Calls.{decided-once}
@@ -36,7 +36,7 @@ not-idle stage answer e idle = true≢false (sym (rw idle at e))
 module _ (r : Schedule) where
   -- from a time to the next the set stays the same, or a call in order acts
   abbrev Same : ℕ → Type 0
-  Same t = (key : ℕ) → has r (suc t) key ≡ has r t key
+  Same t = (key : ℕ) → label r (suc t) key ≡ label r t key
 
   abbrev Acts : ℕ → Type 0
   Acts t = (call : Call) × List·Memᴰ call (in-order-of r) × (call .point ≡ suc t) × (rank call ≡ 0)
@@ -115,15 +115,15 @@ module _ (r : Schedule) where
     where
       go : Course (row .act) (step .worker) (step .report) →
           Same t ⊎ Changing t v step row
-      go (rests keeps idle) = inl (has-kept r t v step (row .act) next keeps)
-      go (goes-on keeps continues same silent unfinished onward) = inl (has-kept r t v step (row .act) next keeps)
-      go (ends keeps at idle done) = inl (has-kept r t v step (row .act) next keeps)
+      go (rests keeps idle) = inl (label-kept r t v step (row .act) next keeps)
+      go (goes-on keeps continues same silent unfinished onward) = inl (label-kept r t v step (row .act) next keeps)
+      go (ends keeps at idle done) = inl (label-kept r t v step (row .act) next keeps)
       go (settles (present keeps inside is) continues none-yet answer settled moves) =
-          inl (has-kept r t v step (row .act) next keeps)
+          inl (label-kept r t v step (row .act) next keeps)
       go (settles (missing keeps out is) continues none-yet answer settled moves) =
-          inl (has-kept r t v step (row .act) next keeps)
+          inl (label-kept r t v step (row .act) next keeps)
       go (settles (late-verdict keeps asks denies stage out) continues none-yet answer settled moves) =
-          inl (has-kept r t v step (row .act) next keeps)
+          inl (label-kept r t v step (row .act) next keeps)
       go (settles (goes-in it operation is) continues none-yet answer settled moves) =
           inr (record { verdict = goes-in it operation is; unanswered = none-yet; decided = settled; update = omega arith })
       go (settles (goes-out it operation is) continues none-yet answer settled moves) =
@@ -180,7 +180,7 @@ module _ (r : Schedule) where
             )
 
   -- where the set changes, a call has its point
-  pub changes : (t : ℕ) → t < last r → ((key : ℕ) → has r (suc t) key ≡ has r t key)
+  pub changes : (t : ℕ) → t < last r → ((key : ℕ) → label r (suc t) key ≡ label r t key)
       ⊎ ((call : Call) × List·Memᴰ call (in-order-of r) × (call .point ≡ suc t) × (rank call ≡ 0))
   changes t in-time = go (happens r t)
     where
@@ -195,9 +195,9 @@ module _ (r : Schedule) where
           ⊎-elim inl (λ changing. inr (changing-call t in-time step o mine event onward changing)) (same-or-changing t _ step mine onward)
 
       go : Happens r t → Same t ⊎ Acts t
-      go (nothing unstarted unreported unfinished same) = inl (λ key. ap (λ arena. member key (setOf arena)) same)
-      go (start event idle call known next) = inl (has-started r t (entry r t .worker) (entry r t .act)
-          (entry r t .key) idle next)
+      go (nothing unstarted unreported unfinished same) = inl (λ key. ap (λ arena. find key (setOf arena)) same)
+      go (start event idle call known next) = inl (label-started r t (entry r t .worker) (entry r t .act)
+          (entry r t .key) (entry r t .length) idle next)
       go (turn step event row rest next) =
           ⊎-elim inl
           (λ changing.

@@ -68,7 +68,7 @@ module _ (r : Schedule) where
   owners-next time owners (starts event turning known idle call next) =
       let w = entry r time .worker in
       subst Owners (sym next)
-      (owners-after (always r time) w (without (always r time) w refl refl (startedWorker (entry r time .act) (entry r time .key)) Idle refl idle .locks) owners)
+      (owners-after (always r time) w (without (always r time) w refl refl (startedWorker (entry r time .act) (entry r time .key) (entry r time .length)) Idle refl idle .locks) owners)
   owners-next time owners (turns event turning known next) =
       let w = entry r time .worker in
       subst Owners (sym next) (owners-after (always r time) w (turn-locks (always r time) w (r .workers) .locks) owners)

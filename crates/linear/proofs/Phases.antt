@@ -15,20 +15,21 @@ use Rattle.worker.specs.declared.Worker.{Worker}
 use Rattle.worker.specs.declared.report.Answer.the-variants.{No}
 use Rattle.worker.specs.declared.report.Report.{Report}
 use Rattle.worker.specs.declared.report.Step.{Step}
-use Rattle.worker.proofs.Laws.{range-bounds}
+use Rattle.worker.proofs.Laws.{range-bounds, call-length}
+use Rattle.arena.specs.Snapshot.{isNone}
 use Rattle.linear.specs.Entries.{callStarted, turnReported, isReported, isFinished}
 use Rattle.linear.specs.History.{isDecision, finishesAt, decidesAt}
 use Rattle.linear.proofs.Reach.{here, same?}
-use Rattle.linear.proofs.State.{State, decode, stepped, startStep}
+use Rattle.linear.proofs.State.{State, keptLength, decode, stepped, startStep}
 use Rattle.linear.proofs.Promises.{in-curr, Live, promises}
-use Rattle.linear.proofs.Invariant.{Ahead, Inv, promised, live-held, live-chain}
+use Rattle.linear.proofs.Invariant.{In, Ahead, Inv, promised, live-held, live-chain}
 use Rattle.linear.proofs.After.{own-after, others-after, live-after}
 use Rattle.linear.proofs.Course.{Row, moved-unfinished, spot, Onward, Continues, Verdict, goes-in, goes-out, present, missing, late, Course, rests, goes-on, settles, ends}
 use Rattle.linear.proofs.TurnKinds.{sane-parts}
 use Rattle.linear.proofs.Passes.{stage-below}
 use Rattle.linear.proofs.Simulation.{Does, adds, adds-not, is-full, removes, removes-not, finds}
-use Rattle.linear.proofs.Timeline.{Begun, has, Happens, nothing, start, turn, own-worker, always, happens, Schedule, state, entry, outcome, decisive, finishing}
-use Rattle.linear.proofs.Keys.{present-in, in-present, absent-of, has-kept, has-added, has-taken, ahead-on}
+use Rattle.linear.proofs.Timeline.{Begun, has, label, Happens, nothing, start, turn, own-worker, lengths-at, always, happens, Schedule, state, entry, outcome, decisive, finishing}
+use Rattle.linear.proofs.Keys.{present-in, in-present, absent-of, none-found, has-added, has-taken, label-kept, label-added, label-taken, ahead-on}
 
 -- a look-up stands on a live node
 spot-live : {nodes : ℕ} {s : State} → Inv nodes s → (v : ℕ) → 22 ≤ s .worker v .stage → Live nodes s (spot (s .worker v))
@@ -91,6 +92,9 @@ module _ (r : Schedule) where
     abbrev key : ℕ
     key = entry r origin .key
 
+    abbrev length : ℕ
+    length = entry r origin .length
+
     abbrev begin : ℕ
     begin = suc origin
 
@@ -108,11 +112,12 @@ module _ (r : Schedule) where
       pub busy : state r now .worker v .stage ≢ 0
       pub same-operation : state r now .worker v .operation ≡ operation
       pub same-key : state r now .worker v .key ≡ key
+      pub same-length : state r now .worker v .length ≡ length
       pub unfinished : None (finishing r v) now
 
     -- what its answer is decided to be: what the call does, whole, at this time; or no of a contains, whose key was absent before
     pub data Settled (time : ℕ) : Type 0 where
-      acts : Does (has r time) (has r (suc time)) operation key (state r (suc time) .worker v .answer) → Settled time
+      acts : Does (label r time) (label r (suc time)) operation key length (state r (suc time) .worker v .answer) → Settled time
       looks-up : operation ≡ contains → state r (suc time) .worker v .answer ≡ answerNumber No → Since begin (suc time) key → Settled time
 
     -- it is decided by the entry after a time, and not before
@@ -171,6 +176,7 @@ module _ (r : Schedule) where
               busy = rw same (o .busy);
               same-operation = rw same (o .same-operation);
               same-key = rw same (o .same-key);
+              same-length = rw same (o .same-length);
               unfinished = up-to (o .unfinished) unfinished;
             }
 
@@ -207,6 +213,7 @@ module _ (r : Schedule) where
             busy = rw after (continues .busy);
             same-operation = rw after (continues .operation ∙ o .same-operation);
             same-key = rw after (continues .key ∙ o .same-key);
+            same-length = rw after (continues .length ∙ o .same-length);
             unfinished = up-to (o .unfinished) (finishes-now unfinished);
           }
 
@@ -228,35 +235,50 @@ module _ (r : Schedule) where
           let goes = subst (λ k. Onward (state r now) k before (step .worker)) (o .same-key) onward looks in
           look-kept now (o .begun) (spot-before looks) (⊎-elim inl (λ ahead. inr (goes .1 ahead)) (look (goes .0))))
 
-      -- what a verdict comes to, of the worker's operation and key
+      -- whether the worker's key is there
+      is-there : In (state r now) (before .key) → isNone (label r now (before .key)) ≡ false
+      is-there inside = none-found r now (before .key) (in-present r now (before .key) inside)
+
+      is-absent : (In (state r now) (before .key) → ⊥) → isNone (label r now (before .key)) ≡ true
+      is-absent out = none-found r now (before .key) (absent-of r now (before .key) out)
+
+      -- what a verdict comes to, of the worker's operation, key and length
       does : Verdict (row .act) (step .worker) →
-          Does (has r now) (has r (suc now)) (before .operation) (before .key) (step .worker .answer)
+          Does (label r now) (label r (suc now)) (before .operation) (before .key) (keptLength (state r now) (before .length)) (step .worker .answer)
           ⊎ ((before .operation ≡ contains) × (step .worker .answer ≡ answerNumber No) × (23 ≤ before .stage)
           × (Ahead (state r now) (before .curr) (before .key) → ⊥))
-      does (goes-in it op answer) = let change = has-added r now v step (row .act) next it in inl (adds op answer (change .0) (change .1))
+      does (goes-in it op answer) =
+          inl (adds op answer (none-found r now (before .key) (has-added r now v step (row .act) next it .0))
+          (label-added r now v step (row .act) next it))
       does (goes-out it op answer) =
-          let change = has-taken r now v step (row .act) next it in inl (removes op answer (change .0) (change .1))
-      does (present it inside (inl is)) =
-          inl (adds-not (is .0) (is .1) (in-present r now (before .key) inside) (has-kept r now v step (row .act) next it))
-      does (present it inside (inr is)) =
-          inl (finds (is .0) (is .1) (in-present r now (before .key) inside) (has-kept r now v step (row .act) next it))
-      does (missing it out (inl is)) =
-          inl (is-full (is .0) (is .1) (absent-of r now (before .key) out) (has-kept r now v step (row .act) next it))
-      does (missing it out (inr is)) =
-          inl (removes-not (is .0) (is .1) (absent-of r now (before .key) out) (has-kept r now v step (row .act) next it))
+          inl (removes op answer (none-found r now (before .key) (has-taken r now v step (row .act) next it .0))
+          (label-taken r now v step (row .act) next it))
+      does (present it inside (inl is)) = inl (adds-not (is .0) (is .1) (is-there inside) (label-kept r now v step (row .act) next it))
+      does (present it inside (inr is)) = inl (finds (is .0) (is .1) (is-there inside) (label-kept r now v step (row .act) next it))
+      does (missing it out (inl is)) = inl (is-full (is .0) (is .1) (is-absent out) (label-kept r now v step (row .act) next it))
+      does (missing it out (inr is)) = inl (removes-not (is .0) (is .1) (is-absent out) (label-kept r now v step (row .act) next it))
       does (late it op answer stage out) = inr (op, answer, stage, out)
+
+      -- what nodes keep of the length is what the start carried
+      carried : Open now → keptLength (state r now) (before .length) ≡ length
+      carried o =
+          let same : state r now .lengths ≡ state r origin .lengths = lengths-at r now ∙ sym (lengths-at r origin) in
+          rw (o .same-length, same) (call-length (state r origin .lengths) operation key length (b .call))
 
       settled-now : Open now → (22 ≤ before .stage → Sight now (spot before)) → Verdict (row .act) (step .worker) → Settled now
       settled-now o look verdict =
           ⊎-elim
-          (λ it. acts (rw after (subst (λ k. Does (has r now) (has r (suc now)) operation k (step .worker .answer)) (o .same-key)
-          (subst (λ op. Does (has r now) (has r (suc now)) op (before .key) (step .worker .answer)) (o .same-operation) it))))
+          (λ it. acts (rw after (of-call it)))
           (λ it.
           looks-up (sym (o .same-operation) ∙ it .0) (rw after (it .1))
           (⊎-elim longer
           (λ ahead. absurd (it .3 (rw (ne-eqb (before .stage) 22 (omega (arith, it .2)), ← o .same-key) at ahead)))
           (look (omega (arith, it .2)))))
           (does verdict)
+        where
+          of-call : Does (label r now) (label r (suc now)) (before .operation) (before .key) (keptLength (state r now) (before .length))
+              (step .worker .answer) → Does (label r now) (label r (suc now)) operation key length (step .worker .answer)
+          of-call it = rw (← o .same-operation, ← o .same-key, ← carried o) it
 
       -- the turn decides the answer of a call that runs
       pub decided-now : Open now → None (decisive r v) now →
@@ -293,7 +315,7 @@ module _ (r : Schedule) where
 
         by-start : outcome r now ≡ callStarted → state r now .worker (entry r now .worker) .stage ≡ 0 →
             state r (suc now) ≡ stepped (state r now) (entry r now .worker)
-            (startStep (entry r now .act) (entry r now .key)) →
+            (startStep (entry r now .act) (entry r now .key) (entry r now .length)) →
             (entry r now .worker ≡ v) ⊎ (entry r now .worker ≢ v) → Phase (suc now)
         by-start event idle next (inl own) = idle-kept phase (subst (λ w. state r now .worker w .stage ≡ 0) own idle)
         by-start event idle next (inr other) =
@@ -318,7 +340,7 @@ module _ (r : Schedule) where
         go (start event idle call there next) = by-start event idle next (same? (entry r now .worker) v)
         go (turn step event row idle next) = by-turn step event row next (same? (entry r now .worker) v)
 
-    started : state r begin .worker v ≡ startedWorker operation key
+    started : state r begin .worker v ≡ startedWorker operation key length
     started = ap (λ (s : State). s .worker v) (b .next) ∙ rw (eq-eqb v v refl)
 
     -- a contains begins at Head: its key is absent now, or ahead
@@ -343,6 +365,7 @@ module _ (r : Schedule) where
           busy = rw started (busy (eqb operation contains) (firstStage operation) refl);
           same-operation = rw started refl;
           same-key = rw started refl;
+          same-length = rw started refl;
           unfinished = λ t after upto. absurd (omega arith);
         })
         (rw started refl) (λ t after upto. absurd (omega arith)) first-look

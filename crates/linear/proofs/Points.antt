@@ -14,7 +14,7 @@ use Rattle.linear.specs.Lists.{first}
 use Rattle.linear.specs.History.{Call, absentAt, finishOf, decisionOf, answerOf, pointOf, callAt}
 use Rattle.linear.proofs.ListLaws.{first-none, first-is, first-found}
 use Rattle.linear.proofs.Simulation.{Does, does-early}
-use Rattle.linear.proofs.Timeline.{Begun, has, own-worker, Schedule, state, last, entry, decisive, finishing, call-at}
+use Rattle.linear.proofs.Timeline.{Begun, has, label, own-worker, Schedule, state, last, entry, decisive, finishing, call-at}
 use Rattle.linear.proofs.Phases.{Settled, acts, looks-up, Decided, Phase, runs, closes, finished, phase-at}
 
 module _ (r : Schedule) where
@@ -29,10 +29,22 @@ module _ (r : Schedule) where
     abbrev key : ℕ
     key = entry r time .key
 
+    abbrev length : ℕ
+    length = entry r time .length
+
     -- its record, with a point, a finish and an answer
     abbrev pub made : ℕ → ℕ → ℕ → Call
     made point finish answer =
-        record { worker = v; operation = operation; key = key; start = suc time; point = point; finish = finish; answer = answer }
+        record {
+          worker = v;
+          operation = operation;
+          key = key;
+          length = length;
+          start = suc time;
+          point = point;
+          finish = finish;
+          answer = answer;
+        }
 
     made-of : {finish decision answer point : ℕ} → finishOf (r .initial) (r .entries) v (suc time) ≡ finish →
         decisionOf (r .initial) (r .entries) v (suc time) finish ≡ decision →
@@ -61,7 +73,7 @@ module _ (r : Schedule) where
       waits : call-at r (suc time) ≡ made 0 0 0 →
           ((t : ℕ) → suc time < t → t ≤ last r → decisive r v t ≡ false) → Fate
       acted : (t finish : ℕ) → Decided r time b t → t < last r → (finish ≡ 0) ⊎ (suc t < finish) →
-          Does (has r t) (has r (suc t)) operation key (answerAt t) →
+          Does (label r t) (label r (suc t)) operation key length (answerAt t) →
           call-at r (suc time) ≡ made (suc t) finish (answerAt t) → Fate
       looked : (t finish point : ℕ) → Decided r time b t → t < last r → (finish ≡ 0) ⊎ (suc t < finish) →
           operation ≡ contains → answerAt t ≡ answerNumber No → has r point key ≡ false →

@@ -6,14 +6,14 @@ use mathlib.Core.Bool.{Bool, true, false, cond, and-eq-true-iff}
 use native.Mathlib.Omega.{arith}
 use lib.Dec.{eqb}
 use borrow.Author.Tests.{eqb-false}
-use Rattle.worker.specs.Worker.{add, remove, contains, within, isKey, isCall, newWorker, startedWorker}
+use Rattle.worker.specs.Worker.{add, remove, contains, within, isKey, carries, isCall, newWorker, startedWorker}
 use Rattle.worker.specs.Stages.{reports, stageTable, stepOf}
 use Rattle.worker.specs.Turn.{belongs}
 use Rattle.worker.specs.declared.report.Free.{Free}
 use Rattle.worker.specs.declared.report.Free.the-variants as free
 use Rattle.worker.specs.declared.report.Report.the-variants.{Idle}
 use Rattle.worker.specs.declared.report.Step.{Step}
-use Rattle.worker.proofs.Laws.{range-bounds, in-range}
+use Rattle.worker.proofs.Laws.{range-bounds, in-range, call-parts}
 use Rattle.worker.proofs.Tables.{AllFrom, end, _then_, row-at}
 use Rattle.lazy.specs.Free.{rootsOf, lowestFree}
 use Rattle.lazy.specs.Turn.{seenOf}
@@ -103,26 +103,25 @@ update : (operation : ℕ) → within add contains operation ≡ true → operat
 update operation e d =
     let bounds = range-bounds add contains operation e in in-range add remove operation (bounds .0) (omega arith)
 
-module _ {nodes : ℕ} {s : State} (inv : Inv nodes s) (w operation key : ℕ) (idle : s .worker w .stage ≡ 0)
-    (call : isCall operation key ≡ true) where
-  pub start-act : Act nodes s w (startStep operation key .effect)
+module _ {nodes : ℕ} {s : State} (inv : Inv nodes s) (w operation key length : ℕ) (idle : s .worker w .stage ≡ 0)
+    (call : isCall (s .lengths) operation key length ≡ true) where
+  known : (within add contains operation ≡ true) × (isKey key ≡ true) × (carries (s .lengths) operation key length ≡ true)
+  known = call-parts (s .lengths) operation key length call
+
+  pub start-act : Act nodes s w (startStep operation key length .effect)
   start-act = quiet (omega arith)
 
-  start-places : Places nodes s w (startStep operation key)
+  start-places : Places nodes s w (startStep operation key length)
   start-places = steps inv w _ _ (λ k f. f) (far (inv .shape .cap)) (far (inv .shape .cap)) (far (inv .shape .cap))
 
-  start-standing : Standing nodes (stepped s w (startStep operation key)) w (startedWorker operation key)
+  start-standing : Standing nodes (stepped s w (startStep operation key length)) w (startedWorker operation key length)
   unfolding promises belongs
   start-standing = go (eqb operation contains) refl
     where
       go : (asks : Bool) → eqb operation contains ≡ asks →
-          Standing nodes (stepped s w (startStep operation key)) w (newWorker (cond asks 22 1) operation key)
-      go true e =
-          let both = and-eq-true-iff (within add contains operation)
-          (isKey key) .0 call in record { promise = tt; sane-record = λ busy. rw (e, both .1) }
-      go false e =
-          let both = and-eq-true-iff (within add contains operation) (isKey key) .0 call in
-          record { promise = tt; sane-record = λ busy. rw (update operation (both .0) (eqb-false operation 3 e), both .1) }
+          Standing nodes (stepped s w (startStep operation key length)) w (newWorker (cond asks 22 1) operation key length)
+      go true e = record { promise = tt; sane-record = λ busy. rw (e, known .1) }
+      go false e = record { promise = tt; sane-record = λ busy. rw (update operation (known .0) (eqb-false operation 3 e), known .1) }
 
-  pub start-inv : Inv nodes (stepped s w (startStep operation key))
+  pub start-inv : Inv nodes (stepped s w (startStep operation key length))
   start-inv = inv-after inv w start-act start-places start-standing

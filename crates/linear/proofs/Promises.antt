@@ -10,7 +10,7 @@ use Rattle.worker.specs.Worker.{within, isKey}
 use Rattle.worker.specs.Turn.{belongs}
 use Rattle.worker.specs.declared.Worker.{Worker}
 use Rattle.linear.proofs.Reach.{Reach}
-use Rattle.linear.proofs.State.{State, Shape, shapeOf}
+use Rattle.linear.proofs.State.{State, keptLength, Shape, shapeOf}
 
 -- a number that a worker's record holds
 pub data Holds (w : Worker) (n : ℕ) : Type 0 where
@@ -120,7 +120,7 @@ module _ (nodes : ℕ) (a : Shape) (me e pred curr : ℕ) where
     pub curr-in : curr < nodes
     pub hit : a .key curr ≡ e
 
--- 15: spare is a new node, with the key and a link to curr, that nobody else can come to
+-- 15: spare is a new node, with the key, the length and a link to curr, that nobody else can come to
 pub record Filled (nodes : ℕ) (s : State) (me e pred curr spare : ℕ) : Type 0 where
   pub gap : Gap nodes (shapeOf s) me e pred curr
   pub spare-in : spare < nodes
@@ -130,6 +130,7 @@ pub record Filled (nodes : ℕ) (s : State) (me e pred curr spare : ℕ) : Type 
   pub has-key : s .key spare ≡ e
   pub has-next : s .next spare ≡ curr
   pub has-mark : s .mark spare ≡ 0
+  pub has-length : s .length spare ≡ keptLength s (s .worker me .length)
 
 -- of number of nodes, state, worker, key, pred, curr and spare
 abbrev pub Promise : Type 1

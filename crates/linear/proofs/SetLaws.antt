@@ -1,4 +1,4 @@
--- Laws of sets as rising lists of keys, and of the set of an arena.
+-- Laws of the set of an arena.
 use Prim.Native.Nat.{ℕ, zero, suc, _+_, _≤_, _<_}
 use mathlib.Core.Path.{_≡_, refl, sym, ap, _∙_}
 use mathlib.Core.Logic.{_≢_, _↔_, ⊎-elim}
@@ -15,136 +15,9 @@ use Rattle.worker.specs.Node.{head, tail}
 use Rattle.words.specs.Layout.{layoutOf, nodesOf, nodeWidth, nodePart}
 use Rattle.words.specs.Records.{keyAt, nextAt}
 use Rattle.arena.specs.Snapshot.{walk, chain, isNone}
-use Rattle.linear.specs.Lists.{filter, member, Each, none, _and_, Pairs, alone, _ahead_, Rising}
-use Rattle.linear.specs.Sets.{nodeIn, isUnmarked, walkOf, ChainWhole, chainOf, setOf, OnChain, top, link, InSet}
-use Rattle.linear.specs.Sequential.{including, excluding}
-use Rattle.linear.proofs.ListLaws.{in-filter, from-filter, in-map, from-map, each-in, each-of, pairs-filter, pairs-map}
-
--- the keys of a list are what is in it
-in-member : {key : ℕ} {keys : List ℕ} → List·Memᴰ key keys → member key keys ≡ true
-unfolding member
-in-member {key} (List·Memᴰ·head {x = other} same) = or-inl (eqb key other) _ (eq-eqb key other same)
-in-member {key} (List·Memᴰ·tail {x = other} m) = or-inr (eqb key other) _ (in-member m)
-
-pub from-member : (key : ℕ) (keys : List ℕ) → member key keys ≡ true → List·Memᴰ key keys
-unfolding member
-from-member key [] e = let z : _≡_ {A = ℕ} 0 1 = cc in absurd (omega arith)
-from-member key (other ∷ keys) e =
-    elim (ℕ-discrete key other) [
-      | yes q ↦ List·Memᴰ·head q
-      | no q ↦ List·Memᴰ·tail (from-member key keys (rw (ne-eqb key other q) at e))
-    ]
-
--- what is in one list is in another with the same keys
-shared : {key : ℕ} {xs : List ℕ} (ys : List ℕ) → member key xs ≡ member key ys → List·Memᴰ key xs → List·Memᴰ key ys
-shared {key} ys same m = from-member key ys (sym same ∙ in-member m)
-
--- and so is its first
-first-shared : (x : ℕ) (xs ys : List ℕ) → member x (x ∷ xs) ≡ member x ys → List·Memᴰ x ys
-first-shared x xs ys same = shared ys same (List·Memᴰ·head {xs = xs} refl)
-
--- a key below all others is the least, and is not among the others
-least : {first key : ℕ} {keys : List ℕ} → Each (λ other. first < other) keys → List·Memᴰ key (first ∷ keys) → first ≤ key
-least above m = ⊎-elim (λ same. omega arith) (λ there. omega (arith, each-in above there)) (List·Memᴰ·cases-cons m)
-
-once : (first : ℕ) (keys : List ℕ) → Each (λ other. first < other) keys → member first keys ≡ false
-once first keys above =
-    eq-false-eq-not-eq-true (member first keys) .0 (λ present. omega (arith, each-in above (from-member first keys present)))
-
--- without their first keys, which are the same, two lists have the same keys as before
-others-same : (key first : ℕ) {xs ys : List ℕ} → Each (λ other. first < other) xs → Each (λ other. first < other) ys →
-    member key (first ∷ xs) ≡ member key (first ∷ ys) → member key xs ≡ member key ys
-unfolding member
-others-same key first {xs} {ys} above beyond same =
-    elim (ℕ-discrete key first) [
-      | yes q ↦ rw q (once first xs above ∙ sym (once first ys beyond))
-      | no q ↦ rw (ne-eqb key first q) at same
-    ]
-
--- rising lists with the same keys are the same
-pub rising-same : (xs ys : List ℕ) → Rising xs → Rising ys → ((key : ℕ) → member key xs ≡ member key ys) → xs ≡ ys
-rising-same [] [] r s same = refl
-rising-same [] (y ∷ ys) r s same = absurd (List·Memᴰ·not-nil (first-shared y ys [] (sym (same y))))
-rising-same (x ∷ xs) [] r s same = absurd (List·Memᴰ·not-nil (first-shared x xs [] (same x)))
-rising-same (x ∷ xs) (y ∷ ys) (above ahead r) (beyond ahead s) same =
-    let low = least above (first-shared y ys (x ∷ xs) (sym (same y))) in
-    let high = least beyond (first-shared x xs (y ∷ ys) (same x)) in
-    let first : y ≡ x = omega arith in
-    cc (first, rising-same xs ys r s (λ key. others-same key x above (rw first at beyond) (rw first at (same key))))
-
--- the order of two tests does not matter
-exchanged : (a b c : Bool) → (a || (b || c)) ≡ (b || (a || c))
-exchanged true true c = refl
-exchanged true false c = refl
-exchanged false b c = refl
-
--- a key put in its place is there with the others
-pub including-member : (key : ℕ) (keys : List ℕ) (other : ℕ) → member other (including key keys) ≡ (eqb other key || member other keys)
-unfolding member including
-including-member key [] other = refl
-including-member key (first ∷ keys) other =
-    ⊎-elim
-    (λ later.
-    rw later
-    (ap (λ there. eqb other first || there) (including-member key keys other)
-    ∙ exchanged (eqb other first) (eqb other key) (member other keys)))
-    (λ before. rw before)
-    (dichotomy (ltb key first))
-
--- one that is the same is not left where the first is taken out, and where it is kept, the first is not the same
-taken : (same rest : Bool) → (not same && rest) ≡ (not same && (same || rest))
-taken true rest = refl
-taken false rest = refl
-
-kept : (first same rest : Bool) → (first ≡ true → same ≡ false) → (first || (not same && rest)) ≡ (not same && (first || rest))
-kept true same rest apart = rw (apart refl)
-kept false same rest apart = refl
-
--- a key taken out is not there, and every other one is that was
-pub excluding-member : (key : ℕ) (keys : List ℕ) (other : ℕ) →
-    member other (excluding key keys) ≡ (not (eqb other key) && member other keys)
-unfolding member excluding
-excluding-member key [] other = sym (and-false (not (eqb other key)))
-excluding-member key (first ∷ keys) other =
-    elim (ℕ-discrete key first) [
-      | yes q ↦ rw (← q, eq-eqb key key refl) (excluding-member key keys other ∙ taken (eqb other key) (member other keys))
-      | no q ↦
-          let apart : eqb other first ≡ true → eqb other key ≡ false = λ e. ne-eqb other key (λ p. q (sym p ∙ eqb-true other first e)) in
-          rw (ne-eqb key first q)
-          (ap (λ there. eqb other first || there) (excluding-member key keys other)
-          ∙ kept (eqb other first) (eqb other key) (member other keys) apart)
-    ]
-
--- keys still rise with a new one put in its place
-pub including-rises : (key : ℕ) (keys : List ℕ) → Rising keys → member key keys ≡ false → Rising (including key keys)
-unfolding member including
-including-rises key [] r absent = none ahead alone
-including-rises key (first ∷ keys) (above ahead r) absent =
-    let apart = or-eq-false-eq-eq-false-and-eq-false (eqb key first) (member key keys) .0 absent in
-    ⊎-elim
-    (λ later.
-    let below : first < key = omega (arith, ltb-false, eqb-false key first (apart .0)) in
-    rw later
-    (each-of (including key keys)
-    (λ other m.
-    ⊎-elim (λ same. omega arith) (λ there. each-in above there)
-    (List·Memᴰ·cases-cons (shared (key ∷ keys) (including-member key keys other) m)))
-    ahead including-rises key keys r (apart .1)))
-    (λ before.
-    let below = ltb-true key first before in
-    rw before ((below and each-of keys (λ other m. omega (arith, each-in above m))) ahead above ahead r))
-    (dichotomy (ltb key first))
-
--- a key taken out leaves those that pass a test, so they still rise
-excluding-filter : (key : ℕ) (keys : List ℕ) → excluding key keys ≡ filter (λ other. not (eqb key other)) keys
-unfolding excluding filter
-excluding-filter key [] = refl
-excluding-filter key (first ∷ keys) =
-    ⊎-elim (λ apart. rw apart (ap (λ later. first ∷ later) (excluding-filter key keys)))
-    (λ same. rw same (excluding-filter key keys)) (dichotomy (eqb key first))
-
-pub excluding-rises : (key : ℕ) (keys : List ℕ) → Rising keys → Rising (excluding key keys)
-excluding-rises key keys r = rw excluding-filter (pairs-filter (λ other. not (eqb key other)) r)
+use Rattle.linear.specs.Lists.{Pairs, alone, _ahead_}
+use Rattle.linear.specs.Sets.{Label, Rising, nodeIn, isUnmarked, labelIn, walkOf, ChainWhole, chainOf, setOf, OnChain, top, link, InSet}
+use Rattle.linear.proofs.ListLaws.{in-filter, from-filter, in-map, from-map, each-of, pairs-filter, pairs-map}
 
 -- nodes below a count that links lead through from one node up to Tail, each with a key above the last
 pub data Walked (count : ℕ) (key next : ℕ → ℕ) : ℕ → ℕ → List ℕ → Type 0 where
@@ -280,17 +153,17 @@ module _ (arena : List ℕ) where
   pub set-rises : Rising (setOf arena)
   unfolding setOf chainOf
   set-rises =
-      pairs-map (keyOf arena)
+      pairs-map (labelIn arena)
       (pairs-filter (isUnmarked arena) (or-empty (walkOf arena) (λ broken. alone) (λ nodes e. walked-rises (found-walked nodes e))))
 
-  -- and where the chain is whole, they are those of document 01's words
-  pub set-members : ChainWhole arena → (key : ℕ) → (member key (setOf arena) ≡ true) ↔ InSet arena key
+  -- and where the chain is whole, its labels are those of document 01's words
+  pub set-members : ChainWhole arena → (label : Label) → List·Memᴰ label (setOf arena) ↔ InSet arena label
   unfolding setOf
-  set-members whole key = (forth, back)
+  set-members whole label = (forth, back)
     where
-      forth : member key (setOf arena) ≡ true → InSet arena key
-      forth e =
-          let found = from-map (keyOf arena) (from-member key (setOf arena) e) in
+      forth : List·Memᴰ label (setOf arena) → InSet arena label
+      forth m =
+          let found = from-map (labelIn arena) m in
           let passed = from-filter (isUnmarked arena) (found .1) in
           let on = walked-on (λ low. link (top (omega arith)) (λ q. omega arith) low) (whole-walked whole) (passed .0) in
           let above = walked-above (whole-walked whole) (passed .0) in
@@ -300,11 +173,10 @@ module _ (arena : List ℕ) where
             not-head = λ q. omega (arith, rw q at above);
             not-tail = on .1;
             unmarked = eqb-true _ _ (passed .1);
-            has-key = sym (found .2);
+            has-label = sym (found .2);
           }
 
-      back : InSet arena key → member key (setOf arena) ≡ true
+      back : InSet arena label → List·Memᴰ label (setOf arena)
       back s =
           let on = on-walked (whole-walked whole) (s .on-chain) (s .not-head) (s .not-tail) in
-          let passed = in-filter (isUnmarked arena) on (eq-eqb _ _ (s .unmarked)) in
-          in-member (Memᴰ·cast (sym (s .has-key)) (in-map (keyOf arena) passed))
+          Memᴰ·cast (sym (s .has-label)) (in-map (labelIn arena) (in-filter (isUnmarked arena) on (eq-eqb _ _ (s .unmarked))))

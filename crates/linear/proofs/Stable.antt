@@ -99,7 +99,7 @@ module _ {nodes : ℕ} {s t : State} {w : ℕ} (view : View nodes s t w) (v : �
   live-place (inr e) l = live-held v (in-curr e) l
 
   keys : (n : ℕ) → (n ≡ s .worker v .pred) ⊎ (n ≡ s .worker v .curr) → n < nodes → t .key n ≡ s .key n
-  keys n h l = view .keys n (live-place h l)
+  keys n h l = view .labels n (live-place h l) .0
 
   -- a node that v owns stays so, and is not touched
   owners : (n : ℕ) → (n ≡ s .worker v .pred) ⊎ (n ≡ s .worker v .curr) → n < nodes → s .owner n ≡ suc v → t .owner n ≡ suc v
@@ -155,6 +155,7 @@ module _ {nodes : ℕ} {s t : State} {w : ℕ} (view : View nodes s t w) (v : �
   filled-kept : Filled nodes s v e pred curr spare → Filled nodes t v e pred curr spare
   filled-kept f =
       let mine : Holds (s .worker v) spare = in-spare refl in
+      let label = view .labels spare (live-held v mine (f .spare-in)) in
       let kept : (t .next spare ≡ s .next spare) × (t .mark spare ≡ s .mark spare) =
       ⊎-elim (λ same. same) (λ his. absurd (f .alone .unheld w spare (λ q. other (sym q)) (his .1) refl))
       (view .touched spare (live-held v mine (f .spare-in))) in
@@ -164,9 +165,10 @@ module _ {nodes : ℕ} {s t : State} {w : ℕ} (view : View nodes s t w) (v : �
         alone = private-kept (f .spare-in) mine (f .alone);
         not-pred = f .not-pred;
         not-curr = f .not-curr;
-        has-key = view .keys spare (live-held v mine (f .spare-in)) ∙ f .has-key;
+        has-key = label .0 ∙ f .has-key;
         has-next = kept .0 ∙ f .has-next;
         has-mark = kept .1 ∙ f .has-mark;
+        has-length = rw (view .others v other, view .kind) (label .1 ∙ f .has-length);
       }
 
   -- every promise of the table is kept

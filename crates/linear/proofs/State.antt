@@ -1,9 +1,8 @@
 -- An arena, decoded: its nodes as a function for each field, and its workers. The proof speaks of these; only `decode` knows words.
 use Prim.Native.Nat.{ℕ, suc}
-use mathlib.Core.List.{List}
-use mathlib.Core.Bool.{cond}
+use mathlib.Core.List.{List, [], _∷_}
+use mathlib.Core.Bool.{Bool, cond}
 use lib.Dec.{ltb, eqb}
-use Rattle.worker.specs.Node.{newNode}
 use Rattle.worker.specs.Worker.{idleWorker, startedWorker}
 use Rattle.worker.specs.Stages.{reports, stepOf}
 use Rattle.worker.specs.declared.Node.{Node}
@@ -13,8 +12,8 @@ use Rattle.worker.specs.declared.report.Seen.{Seen}
 use Rattle.worker.specs.declared.report.Step.{Step}
 use Rattle.worker.specs.declared.report.Effect.{Effect}
 use Rattle.worker.specs.declared.report.Effect.the-variants.{Nothing, SetOwner, SetNext, SetMark, Fill}
-use Rattle.words.specs.Layout.{word, workersOf, nodeKey, nodeNext, nodeMark, nodeOwner}
-use Rattle.words.specs.Records.{workerAt, nodeWords}
+use Rattle.words.specs.Layout.{word, layoutOf, workersOf, nodeWidth, nodeKey, nodeNext, nodeMark, nodeOwner, hasLength}
+use Rattle.words.specs.Records.{workerAt}
 use Rattle.lazy.specs.Turn.{seenOf}
 use Rattle.linear.specs.Sets.{nodeIn}
 
@@ -23,9 +22,16 @@ pub record State : Type 0 where
   pub next : ℕ → ℕ
   pub mark : ℕ → ℕ
   pub owner : ℕ → ℕ
+  pub length : ℕ → ℕ
+  -- whether nodes have a word for the length
+  pub lengths : Bool
   pub worker : ℕ → Worker
 
--- the nodes alone
+-- what a node keeps of a length
+abbrev pub keptLength : State → ℕ → ℕ
+keptLength s length = cond (s .lengths) length 0
+
+-- the nodes alone, but for their lengths
 pub record Shape : Type 0 where
   pub key : ℕ → ℕ
   pub next : ℕ → ℕ
@@ -43,11 +49,13 @@ decode arena =
       next = λ n. nodeIn arena n .next;
       mark = λ n. nodeIn arena n .mark;
       owner = λ n. nodeIn arena n .owner;
+      length = λ n. nodeIn arena n .length;
+      lengths = hasLength (nodeWidth (layoutOf arena));
       worker = λ v. cond (ltb v (workersOf arena)) (workerAt arena v) idleWorker;
     }
 
 abbrev pub nodeOf : State → ℕ → Node
-nodeOf s n = record { key = s .key n; next = s .next n; mark = s .mark n; owner = s .owner n }
+nodeOf s n = record { key = s .key n; next = s .next n; mark = s .mark n; owner = s .owner n; length = s .length n }
 
 -- what an effect makes of a word: of a node, a field, and what stood there
 abbrev pub wordAfter : Effect → ℕ → ℕ → ℕ → ℕ
@@ -55,7 +63,15 @@ wordAfter Nothing node field old = old
 wordAfter (SetOwner n owner) node field old = cond (eqb field nodeOwner) (cond (eqb node n) owner old) old
 wordAfter (SetNext n next) node field old = cond (eqb field nodeNext) (cond (eqb node n) next old) old
 wordAfter (SetMark n) node field old = cond (eqb field nodeMark) (cond (eqb node n) 1 old) old
-wordAfter (Fill n key next) node field old = cond (eqb node n) (word (nodeWords (newNode key next)) field) old
+wordAfter (Fill n key next length) node field old = cond (eqb node n) (word (key ∷ next ∷ 0 ∷ 0 ∷ length ∷ []) field) old
+
+-- and of a length, for which nodes may have no word
+abbrev pub lengthAfter : Bool → Effect → ℕ → ℕ → ℕ
+lengthAfter lengths Nothing node old = old
+lengthAfter lengths (SetOwner n owner) node old = old
+lengthAfter lengths (SetNext n next) node old = old
+lengthAfter lengths (SetMark n) node old = old
+lengthAfter lengths (Fill n key next length) node old = cond (eqb node n) (cond lengths length 0) old
 
 -- the state after a worker's step
 abbrev pub stepped : State → ℕ → Step → State
@@ -65,12 +81,14 @@ stepped s w step =
       next = λ n. wordAfter (step .effect) n nodeNext (s .next n);
       mark = λ n. wordAfter (step .effect) n nodeMark (s .mark n);
       owner = λ n. wordAfter (step .effect) n nodeOwner (s .owner n);
+      length = λ n. lengthAfter (s .lengths) (step .effect) n (s .length n);
+      lengths = s .lengths;
       worker = λ v. cond (eqb v w) (step .worker) (s .worker v);
     }
 
 -- a start is a step that writes the record alone
-abbrev pub startStep : ℕ → ℕ → Step
-startStep operation key = reports (startedWorker operation key) Idle
+abbrev pub startStep : ℕ → ℕ → ℕ → Step
+startStep operation key length = reports (startedWorker operation key length) Idle
 
 -- what a worker's turn sees, and its step
 abbrev pub seenIn : ℕ → ℕ → State → ℕ → Seen

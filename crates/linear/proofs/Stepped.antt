@@ -1,29 +1,31 @@
 -- The arena after a worker's step: its header stays in order, and decoded it is the state after the step.
 use Prim.Native.Nat.{ℕ, _+_, _≤_, _<_}
-use mathlib.Core.Path.{_≡_, sym, ap, _∙_, fun-ext}
+use mathlib.Core.Path.{_≡_, refl, sym, ap, _∙_, fun-ext}
 use mathlib.Core.Logic.{inl, inr}
 use mathlib.Core.List.{List, []}
+use mathlib.Core.Bool.{Bool, true, false, cond}
 use native.Mathlib.Omega.{arith}
 use native.Mathlib.Decide.{ℕ-discrete, decLt}
 use lib.ListN.{length}
 use lib.Seq.{length-sets}
-use borrow.Author.Tests.{eq-eqb, ne-eqb, lt-ltb, le-ltb}
+use borrow.Author.Tests.{eq-eqb, ne-eqb, lt-ltb, le-ltb, ltb-true}
 use Rattle.worker.specs.Worker.{idleWorker}
 use Rattle.worker.specs.declared.Worker.{Worker}
 use Rattle.worker.specs.declared.report.Step.{Step}
 use Rattle.worker.specs.declared.report.Turned.the-variants.{Done}
 use Rattle.worker.proofs.RefusalLaws.{NoneHolds, none-accepts}
 use Rattle.worker.proofs.EffectLaws.{EffectBelow}
-use Rattle.words.specs.Layout.{word, headerWidth, workerWidth, workerStage, workerOperation, workerKey, workerPred, workerCurr, workerSpare, workerAnswer, workerReserved, nodeKey, nodeNext, nodeMark, nodeOwner, workerFrom, nodeWidth, slot, headerWords, workersOf, nodesOf, nodesFromOf, nodeFrom, totalOf}
+use Rattle.words.specs.Layout.{word, headerWidth, workerWidth, workerStage, workerOperation, workerKey, workerPred, workerCurr, workerSpare, workerAnswer, workerLength, nodeKey, nodeNext, nodeMark, nodeOwner, nodeLength, hasLength, workerFrom, nodeWidth, slot, headerWords, layoutOf, workersOf, nodesOf, nodesFromOf, nodeFrom, totalOf}
 use Rattle.words.specs.Records.{workerAt, workerWords, withWorker, nodeAt, Outside}
 use Rattle.words.specs.Replies.{refused, accepted}
 use Rattle.words.specs.Header.{isHeader, headerRefusals}
+use Rattle.words.proofs.Bounds.{wide}
 use Rattle.words.proofs.HeaderLaws.{Header, header-holds}
 use Rattle.words.proofs.RecordLaws.{read-back, others-stay}
 use Rattle.lazy.specs.Turn.{withEffect, turnedArena}
 use Rattle.lazy.proofs.InsideLaws.{field-inside}
-use Rattle.linear.proofs.State.{decode, wordAfter, stepped}
-use Rattle.linear.proofs.Words.{fieldIn, effect-long, effect-before, field-word, no-field, effect-word, word-stays}
+use Rattle.linear.proofs.State.{decode, wordAfter, lengthAfter, stepped}
+use Rattle.linear.proofs.Words.{fieldIn, effect-long, effect-before, field-word, no-field, effect-word, word-stays, length-word, no-length}
 
 -- an arena that the header test does not refuse has its header in order
 pub header-of : (arena : List ℕ) → NoneHolds (headerRefusals arena) → Header arena
@@ -40,7 +42,7 @@ recordOf field =
       curr = field workerCurr;
       spare = field workerSpare;
       answer = field workerAnswer;
-      reserved = field workerReserved;
+      length = field workerLength;
     }
 
 -- that record is read where these words stand
@@ -56,7 +58,7 @@ record-words arena worker field same =
       curr = same workerCurr (omega arith) i;
       spare = same workerSpare (omega arith) i;
       answer = same workerAnswer (omega arith) i;
-      reserved = same workerReserved (omega arith) i;
+      length = same workerLength (omega arith) i;
     }
 
 -- decoded, a worker that there is has its record
@@ -167,15 +169,16 @@ module _ (arena : List ℕ) (none : NoneHolds (headerRefusals arena)) (worker : 
 
     module _ (below : EffectBelow (nodesOf arena) (step .effect)) where
       -- a field of a node is as the effect says
-      field-steps : (n f : ℕ) → f ≤ nodeOwner → fieldIn later n f ≡ wordAfter (step .effect) n f (fieldIn arena n f)
+      field-steps : (n f : ℕ) → f < nodeWidth (layoutOf arena) → fieldIn later n f ≡ wordAfter (step .effect) n f (fieldIn arena n f)
       unfolding nodeFrom
       field-steps n f room =
           let order-later = header-of later none-stays in
           let nodes : nodesOf later ≡ nodesOf arena = header-stays 2 (omega arith) in
+          let layout : layoutOf later ≡ layoutOf arena = header-stays 0 (omega arith) in
           elim (decLt n (nodesOf arena)) [
             | yes there ↦
                 let inside = field-inside arena n f order there room in
-                field-word later order-later n f (omega arith) room
+                field-word later order-later n f (omega arith) (rw layout room)
                 ∙ ap (word later) (place-same arena later header-stays n f)
                 ∙ others-stay (withEffect arena (step .effect)) worker (step .worker) (nodeFrom arena n f)
                 (inr (omega (arith, order .from)))
@@ -187,14 +190,29 @@ module _ (arena : List ℕ) (none : NoneHolds (headerRefusals arena)) (worker : 
                 ∙ ap (wordAfter (step .effect) n f) (sym (no-field arena order n f (omega arith)))
           ]
 
+      -- a length too, where nodes have one; where not, it is 0 before and after
+      length-steps : (n : ℕ) → decode later .length n ≡ stepped (decode arena) worker step .length n
+      unfolding nodeAt
+      length-steps n =
+          ap (λ layout. cond (hasLength (nodeWidth layout)) (fieldIn later n nodeLength) 0) (header-stays 0 (omega arith))
+          ∙ go (hasLength (nodeWidth (layoutOf arena))) refl
+        where
+          go : (lengths : Bool) → hasLength (nodeWidth (layoutOf arena)) ≡ lengths →
+              cond lengths (fieldIn later n nodeLength) 0
+              ≡ lengthAfter lengths (step .effect) n (cond lengths (fieldIn arena n nodeLength) 0)
+          go true has = field-steps n nodeLength (ltb-true _ _ has) ∙ sym (length-word (step .effect) n (fieldIn arena n nodeLength))
+          go false has = sym (no-length (step .effect) n)
+
       -- the arena after the step, decoded, is the state after the step
       pub state-steps : decode (steppedArena arena worker step) ≡ stepped (decode arena) worker step
       unfolding nodeAt
       state-steps =
           λ i. record {
-            key = fun-ext (λ n. field-steps n nodeKey (omega arith)) i;
-            next = fun-ext (λ n. field-steps n nodeNext (omega arith)) i;
-            mark = fun-ext (λ n. field-steps n nodeMark (omega arith)) i;
-            owner = fun-ext (λ n. field-steps n nodeOwner (omega arith)) i;
+            key = fun-ext (λ n. field-steps n nodeKey (omega (arith, wide (order .good)))) i;
+            next = fun-ext (λ n. field-steps n nodeNext (omega (arith, wide (order .good)))) i;
+            mark = fun-ext (λ n. field-steps n nodeMark (omega (arith, wide (order .good)))) i;
+            owner = fun-ext (λ n. field-steps n nodeOwner (omega (arith, wide (order .good)))) i;
+            length = fun-ext length-steps i;
+            lengths = hasLength (nodeWidth (header-stays 0 (omega arith) i));
             worker = fun-ext worker-steps i;
           }

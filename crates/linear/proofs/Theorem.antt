@@ -4,6 +4,7 @@ use mathlib.Core.Path.{_≡_, sym, subst, _∙_}
 use mathlib.Core.Logic.{⊎-elim, _≢_, _↔_}
 use mathlib.Core.List.{List, List·Memᴰ}
 use mathlib.Core.Bool.{true, false, true≢false}
+use mathlib.Core.Option as option
 use native.Mathlib.Omega.{arith}
 use Rattle.worker.specs.Refusals.{noSuchWorker, brokenRecord, brokenChain}
 use Rattle.words.specs.Layout.{goodCounts}
@@ -15,16 +16,17 @@ use Rattle.linear.specs.Order.{hasPoint, rank, inOrder, Before}
 use Rattle.linear.specs.Linearizable.{Linearizable, Unbroken, ExactSets, Resting, Waiting}
 use Rattle.linear.proofs.ListLaws.{from-filter, from-map, from-times, each-of, pairs-mapped, pairs-filter, pairs-weaken}
 use Rattle.linear.proofs.OrderLaws.{from-sorted, sorted-pairs}
-use Rattle.linear.proofs.SetLaws.{rising-same, set-rises, set-members}
+use Rattle.linear.proofs.LabelLaws.{rising-same}
+use Rattle.linear.proofs.SetLaws.{set-rises, set-members}
 use Rattle.linear.proofs.Simulation.{Placed, Apart, placed-answer, simulated}
 use Rattle.linear.proofs.Reach.{Reach, here, on, stuck}
 use Rattle.linear.proofs.Bridge.{Entered, refuses, starts, turns}
 use Rattle.linear.proofs.FreshState.{FreshState}
 use Rattle.linear.proofs.Invariant.{In}
 use Rattle.linear.proofs.Members.{whole}
-use Rattle.linear.proofs.Timeline.{sound, Begun, begun-at, has, start, entered-at, always, Schedule, freshSchedule, arena, state, last, starts-at, call-at, calls-of, in-order-of}
+use Rattle.linear.proofs.Timeline.{sound, Begun, begun-at, label, start, entered-at, always, Schedule, freshSchedule, arena, state, last, starts-at, call-at, calls-of, in-order-of}
 use Rattle.linear.proofs.Rests.{all-rest}
-use Rattle.linear.proofs.Keys.{absent-of}
+use Rattle.linear.proofs.Keys.{absent-of, not-found}
 use Rattle.worker.specs.declared.report.Report.{Report}
 use Rattle.linear.proofs.Points.{Fate, fate}
 use Rattle.linear.proofs.Tellings.{Telling, told-answer}
@@ -78,7 +80,7 @@ module _ (r : Schedule) where
   has-point call e none = true≢false (sym e ∙ rw none)
 
   -- and it is placed rightly, in time
-  placed-of : {call : Call} → Told r call → call .point ≢ 0 → Placed (has r) call × (call .point ≤ last r)
+  placed-of : {call : Call} → Told r call → call .point ≢ 0 → Placed (label r) call × (call .point ≤ last r)
   placed-of (open-yet point finish none) some = absurd (some point)
   placed-of (pointed point low high later placed) some = (placed, high)
 
@@ -108,9 +110,9 @@ module _ (r : Schedule) where
       (pairs-filter hasPoint (pairs-mapped (call-at r) (starts-at r) Differ 1 (last r) differing)))
 
   -- a fresh arena's set is empty
-  empty : (key : ℕ) → has r 0 key ≡ false
+  empty : (key : ℕ) → label r 0 key ≡ option.none
   unfolding arenaAt
-  empty key = absent-of r 0 key (λ i. none i (i .chain))
+  empty key = not-found r 0 key (absent-of r 0 key (λ i. none i (i .chain)))
     where
       fresh : FreshState (state r 0)
       fresh = r .fresh
@@ -122,7 +124,7 @@ module _ (r : Schedule) where
   -- all of demand 3, of one schedule
   pub proved : Linearizable (r .initial) (r .entries)
   proved =
-      let whole = simulated (has r) (last r) (in-order-of r) empty ordered
+      let whole = simulated (label r) (last r) (in-order-of r) empty ordered
       (each-of _ (λ call m. placed-of (told-of (of-order m .0)) (has-point call (of-order m .1)) .0))
       (each-of _ (λ call m. placed-of (told-of (of-order m .0)) (has-point call (of-order m .1)) .1)) (changes r) in
       record {
@@ -131,7 +133,7 @@ module _ (r : Schedule) where
         reached-before = λ call m. reached (told-of m);
         answered-there = λ call m. answers (told-of m);
         told-answer = λ call m. each-call (Telling r) (told-answer r) m;
-        same-keys = rising-same _ _ (whole .1) (set-rises (arena r (last r))) (whole .2);
+        same-labels = rising-same _ _ (whole .1) (set-rises (arena r (last r))) (whole .2);
       }
     where
       started : {call : Call} → Told r call → call .point ≢ 0 → call .start ≤ call .point
@@ -163,22 +165,22 @@ module _ (r : Schedule) where
       let unbroken-chain = whole (sound r time) (always r time) in (unbroken-chain, set-members (arena r time) unbroken-chain)
 
 -- every list of entries from a fresh arena is linearizable
-pub linearizable : (workers nodes : ℕ) (entries : List Entry) → goodCounts workers nodes ≡ true →
-    Linearizable (freshWords workers nodes) entries
-linearizable workers nodes entries good = proved (freshSchedule workers nodes entries good)
+pub linearizable : (layout workers nodes : ℕ) (entries : List Entry) → goodCounts layout workers nodes ≡ true →
+    Linearizable (freshWords layout workers nodes) entries
+linearizable layout workers nodes entries good = proved (freshSchedule layout workers nodes entries good)
 
 -- no turn of it meets 6 or 7
-pub unbroken : (workers nodes : ℕ) (entries : List Entry) → goodCounts workers nodes ≡ true → Unbroken (freshWords workers nodes) entries
-unbroken workers nodes entries good = unmet (freshSchedule workers nodes entries good)
+pub unbroken : (layout workers nodes : ℕ) (entries : List Entry) → goodCounts layout workers nodes ≡ true → Unbroken (freshWords layout workers nodes) entries
+unbroken layout workers nodes entries good = unmet (freshSchedule layout workers nodes entries good)
 
 -- and at every time its chain is whole, and its set is that of document 01's words
-pub exact-sets : (workers nodes : ℕ) (entries : List Entry) → goodCounts workers nodes ≡ true → ExactSets (freshWords workers nodes) entries
-exact-sets workers nodes entries good = sets-exact (freshSchedule workers nodes entries good)
+pub exact-sets : (layout workers nodes : ℕ) (entries : List Entry) → goodCounts layout workers nodes ≡ true → ExactSets (freshWords layout workers nodes) entries
+exact-sets layout workers nodes entries good = sets-exact (freshSchedule layout workers nodes entries good)
 
 -- and an idle worker has the idle record
-pub resting : (workers nodes : ℕ) (entries : List Entry) → goodCounts workers nodes ≡ true → Resting (freshWords workers nodes) entries
-resting workers nodes entries good = all-rest (freshSchedule workers nodes entries good)
+pub resting : (layout workers nodes : ℕ) (entries : List Entry) → goodCounts layout workers nodes ≡ true → Resting (freshWords layout workers nodes) entries
+resting layout workers nodes entries good = all-rest (freshSchedule layout workers nodes entries good)
 
 -- and a wait is a turn of its call, and names another worker, a busy one
-pub waiting : (workers nodes : ℕ) (entries : List Entry) → goodCounts workers nodes ≡ true → Waiting (freshWords workers nodes) entries
-waiting workers nodes entries good = all-blocked (freshSchedule workers nodes entries good)
+pub waiting : (layout workers nodes : ℕ) (entries : List Entry) → goodCounts layout workers nodes ≡ true → Waiting (freshWords layout workers nodes) entries
+waiting layout workers nodes entries good = all-blocked (freshSchedule layout workers nodes entries good)

@@ -4,6 +4,7 @@ use mathlib.Core.Path.{_≡_, sym, ap, subst, _∙_}
 use mathlib.Core.Logic.{_⊎_, inl, inr, _≢_}
 use mathlib.Core.List.{List}
 use mathlib.Core.Bool.{Bool, true, false, true≢false}
+use mathlib.Core.Option.{Option}
 use native.Mathlib.Omega.{arith}
 use native.Mathlib.Numerals.{sub-one}
 use lib.ListN.{length}
@@ -12,15 +13,15 @@ use Rattle.worker.specs.Worker.{isCall, idleWorker, startedWorker}
 use Rattle.worker.specs.declared.report.Report.{Report}
 use Rattle.worker.specs.declared.report.Step.{Step}
 use Rattle.worker.proofs.TurnLaws.{step-row}
-use Rattle.words.specs.Layout.{goodCounts}
+use Rattle.words.specs.Layout.{goodCounts, nodeWidth, hasLength}
 use Rattle.arena.specs.Init.{freshWords}
 use Rattle.words.specs.Records.{workerAt}
 use Rattle.words.proofs.Bounds.{counts}
-use Rattle.linear.specs.Lists.{member}
-use Rattle.linear.specs.Sets.{setOf}
+use Rattle.linear.specs.Sets.{member, setOf}
 use Rattle.linear.specs.Entries.{Entry, Event, callStarted, turnReported, entryRefused, isStarted, isReported, isFinished, eventOf}
 use Rattle.linear.specs.History.{Call, entryAt, arenaAt, eventAt, decidesAt, finishesAt, startsAt, callAt, calls}
 use Rattle.linear.specs.Order.{inOrder}
+use Rattle.linear.proofs.LabelLaws.{find}
 use Rattle.linear.proofs.Reach.{same?}
 use Rattle.linear.proofs.State.{State, decode, stepped, startStep, turnStep}
 use Rattle.linear.proofs.Bridge.{Sound, Entered, refuses, starts, turns, entered, after-sound}
@@ -34,25 +35,27 @@ use Rattle.linear.proofs.FreshInvariant.{fresh-inv}
 
 -- a list of entries from an arena that is fresh, as far as it is read
 pub record Schedule : Type 0 where
+  pub layout : ℕ
   pub workers : ℕ
   pub nodes : ℕ
   pub initial : List ℕ
   pub entries : List Entry
-  pub good : goodCounts workers nodes ≡ true
-  pub in-order : Sound workers nodes initial
+  pub good : goodCounts layout workers nodes ≡ true
+  pub in-order : Sound layout workers nodes initial
   pub fresh : FreshState (decode initial)
 
 -- from a fresh arena of just its total
-abbrev pub freshSchedule : (workers nodes : ℕ) (entries : List Entry) → goodCounts workers nodes ≡ true → Schedule
-freshSchedule workers nodes entries good =
+abbrev pub freshSchedule : (layout workers nodes : ℕ) (entries : List Entry) → goodCounts layout workers nodes ≡ true → Schedule
+freshSchedule layout workers nodes entries good =
     record {
+      layout = layout;
       workers = workers;
       nodes = nodes;
-      initial = freshWords workers nodes;
+      initial = freshWords layout workers nodes;
       entries = entries;
       good = good;
-      in-order = fresh-sound workers nodes good;
-      fresh = fresh-state workers nodes good;
+      in-order = fresh-sound layout workers nodes good;
+      fresh = fresh-state layout workers nodes good;
     }
 
 module _ (r : Schedule) where
@@ -65,6 +68,10 @@ module _ (r : Schedule) where
 
   abbrev pub has : ℕ → ℕ → Bool
   has time key = member key (setOf (arena time))
+
+  -- the length of the label with a key, if it is in the set
+  abbrev pub label : ℕ → ℕ → Option ℕ
+  label time key = find key (setOf (arena time))
 
   abbrev pub last : ℕ
   last = length (r .entries)
@@ -100,17 +107,21 @@ module _ (r : Schedule) where
     nothing : isStarted (outcome time) ≡ false → isReported (outcome time) ≡ false → isFinished (outcome time) ≡ false →
         arena (suc time) ≡ arena time → Happens time
     start : outcome time ≡ callStarted → state time .worker (entry time .worker) .stage ≡ 0 →
-        isCall (entry time .act) (entry time .key) ≡ true → entry time .worker < r .workers →
-        state (suc time) ≡ stepped (state time) (entry time .worker) (startStep (entry time .act) (entry time .key)) → Happens time
+        isCall (state time .lengths) (entry time .act) (entry time .key) (entry time .length) ≡ true → entry time .worker < r .workers →
+        state (suc time) ≡ stepped (state time) (entry time .worker) (startStep (entry time .act) (entry time .key) (entry time .length)) → Happens time
     turn : (step : Step) → outcome time ≡ turnReported (step .report) → Row (r .nodes) (state time) (entry time .worker) step →
         (state time .worker (entry time .worker) .stage ≡ 0 → step .worker ≡ state time .worker (entry time .worker)) →
         state (suc time) ≡ stepped (state time) (entry time .worker) step → Happens time
 
   -- the header stays in order
-  pub sound : (time : ℕ) → Sound (r .workers) (r .nodes) (arena time)
+  pub sound : (time : ℕ) → Sound (r .layout) (r .workers) (r .nodes) (arena time)
   unfolding arenaAt
   sound zero = r .in-order
   sound (suc time) = after-sound (sound time) (entry time)
+
+  -- whether nodes have a length is the same at every time
+  pub lengths-at : (time : ℕ) → state time .lengths ≡ hasLength (nodeWidth (r .layout))
+  lengths-at time = ap (λ layout. hasLength (nodeWidth layout)) (sound time .layout-is)
 
   -- past the last worker there are idle records
   pub idle-past : (time v : ℕ) → r .workers ≤ v → state time .worker v ≡ idleWorker
@@ -150,14 +161,14 @@ module _ (r : Schedule) where
   inv-next : (time : ℕ) → Inv (r .nodes) (state time) → Happens time → Inv (r .nodes) (state (suc time))
   inv-next time inv (nothing unstarted unreported unfinished same) = subst (λ words. Inv (r .nodes) (decode words)) (sym same) inv
   inv-next time inv (start event idle call known next) =
-      subst (Inv (r .nodes)) (sym next) (start-inv inv (entry time .worker) (entry time .act) (entry time .key) idle call)
+      subst (Inv (r .nodes)) (sym next) (start-inv inv (entry time .worker) (entry time .act) (entry time .key) (entry time .length) idle call)
   inv-next time inv (turn step event row idle next) = subst (Inv (r .nodes)) (sym next) (row-inv inv (entry time .worker) row)
 
   -- the invariant holds at every time
   pub always : (time : ℕ) → Inv (r .nodes) (state time)
   unfolding arenaAt
   always zero =
-      let few = counts (r .workers) (r .nodes) (r .good) in
+      let few = counts (r .layout) (r .workers) (r .nodes) (r .good) in
       fresh-inv (omega (arith, few)) (omega (arith, few)) (r .fresh)
   always (suc time) = inv-next time (always time) (happening time (always time) (entered-at time (entry time) (always time)))
 
@@ -169,15 +180,16 @@ module _ (r : Schedule) where
     pub starting : starts-at (suc time) ≡ true
     pub known : entry time .worker < r .workers
     pub idle : state time .worker (entry time .worker) .stage ≡ 0
+    pub call : isCall (state time .lengths) (entry time .act) (entry time .key) (entry time .length) ≡ true
     pub next : state (suc time) ≡ stepped (state time) (entry time .worker)
-        (startStep (entry time .act) (entry time .key))
+        (startStep (entry time .act) (entry time .key) (entry time .length))
 
   pub begun-at : (time : ℕ) → starts-at (suc time) ≡ true → Begun time
   begun-at time e = go (happens time)
     where
       go : Happens time → Begun time
       go (nothing unstarted unreported unfinished same) = absurd (true≢false (sym e ∙ unstarted))
-      go (start event idle call known next) = record { starting = e; known = known; idle = idle; next = next }
+      go (start event idle call known next) = record { starting = e; known = known; idle = idle; call = call; next = next }
       go (turn step event row rest next) = absurd (true≢false (sym e ∙ ap isStarted event))
 
   -- a turn that reports is one of a worker that there is, and an idle worker's does not finish
@@ -204,7 +216,7 @@ module _ (r : Schedule) where
   -- what an entry is to a worker: none of its own, and its record stays; its start; or its turn
   pub data For (time v : ℕ) : Type 0 where
     not-its : (isFinished (outcome time) ≡ false) ⊎ (entry time .worker ≢ v) → state (suc time) .worker v ≡ state time .worker v → For time v
-    its-start : state time .worker v .stage ≡ 0 → state (suc time) .worker v ≡ startedWorker (entry time .act) (entry time .key) → For time v
+    its-start : state time .worker v .stage ≡ 0 → state (suc time) .worker v ≡ startedWorker (entry time .act) (entry time .key) (entry time .length) → For time v
     its-turn : entry time .worker ≡ v → outcome time ≡ turnReported (step-at time v .report) →
         state (suc time) .worker v ≡ step-at time v .worker → For time v
 
@@ -224,8 +236,8 @@ module _ (r : Schedule) where
       go (refuses number event same unknown) _ =
           not-its (inl (ap isFinished (outcome-is time ∙ event))) (ap (λ words. decode words .worker v) same)
       go (starts event starting known idle call next) (inl own) =
-          its-start (subst (λ w. state time .worker w .stage ≡ 0) own idle) (own-is (startStep (entry time .act) (entry time .key)) own next)
-      go (starts event starting known idle call next) (inr other) = other-stays (startStep (entry time .act) (entry time .key)) other next
+          its-start (subst (λ w. state time .worker w .stage ≡ 0) own idle) (own-is (startStep (entry time .act) (entry time .key) (entry time .length)) own next)
+      go (starts event starting known idle call next) (inr other) = other-stays (startStep (entry time .act) (entry time .key) (entry time .length)) other next
       go (turns event turning known next) (inl own) =
           its-turn own (outcome-is time ∙ event ∙ ap (λ w. turnReported (step-at time w .report)) own)
           (own-is (step-at time (entry time .worker)) own next ∙ ap (λ w. step-at time w .worker) own)

@@ -121,7 +121,7 @@ module _ {nodes : ℕ} {s : State} (inv : Inv nodes s) (me : ℕ) where
       Row nodes s me (goes (changed w m p c q (w .answer)) m e)
   moves at m p c q act keeps unfilled kp kc kq promise good busy silent onward =
       goes-row at (changed w m p c q (w .answer)) (Moved m) act keeps (steps _ _ unfilled kp kc kq) promise good
-      (record { busy = busy; operation = refl; key = refl }) refl silent refl onward
+      (record { busy = busy; operation = refl; key = refl; length = refl }) refl silent refl onward
 
   -- the same below 22, so that no look-up is concerned
   pub searches : {n : ℕ} → w .stage ≡ n → (m p c q : ℕ) → within 1 21 m ≡ true → {e : Effect} (act : Act nodes s me e) → Keeps act →
@@ -154,7 +154,7 @@ module _ {nodes : ℕ} {s : State} (inv : Inv nodes s) (me : ℕ) where
       let bounds = range-bounds 1 14 n early in
       goes-row at w (Waits node holder) (quiet (omega arith)) tt (steps _ _ (λ k f. f) pred-known curr-known spare-known)
       (subst (λ k. promiseAt k nodes (stepped s me (reports w (Waits node holder))) me (w .key) (w .pred) (w .curr) (w .spare)) (sym at) promise)
-      (inv .works me .sane-record (omega arith)) (record { busy = omega arith; operation = refl; key = refl }) refl silent refl
+      (inv .works me .sane-record (omega arith)) (record { busy = omega arith; operation = refl; key = refl; length = refl }) refl silent refl
       (λ later. absurd (omega arith))
 
   -- a lock is taken or given up, with pred, curr and spare as they were
@@ -187,6 +187,6 @@ module _ {nodes : ℕ} {s : State} (inv : Inv nodes s) (me : ℕ) where
         placed = steps _ _ unfilled pred-known curr-known spare-known;
         standing = record { promise = promise; sane-record = λ busy. good };
         course =
-            settles verdict (record { busy = omega arith; operation = refl; key = refl }) undecided decided
+            settles verdict (record { busy = omega arith; operation = refl; key = refl; length = refl }) undecided decided
             (subst (λ k. isDecision k answer ≡ true) (sym at) settled) refl;
       }

@@ -12,11 +12,12 @@ use Rattle.lazy.specs.declared.Outcome.{Outcome}
 use Rattle.lazy.specs.declared.Outcome.the-variants as outcome
 use Rattle.lazy.specs.Turn.{outcomeOf, turnOn, turnArena}
 
--- an entry: worker, act, key (not looked at for a turn)
+-- an entry: worker, act, key, and the length that a start carries (key and length not looked at for a turn)
 pub record Entry : Type 0 where
   pub worker : ℕ
   pub act : ℕ
   pub key : ℕ
+  pub length : ℕ
 
 -- act 0 is a turn; every other act is a start of the operation with that number, so one above 3 is a start with a bad operation
 abbrev pub isTurn : Entry → Bool
@@ -35,12 +36,12 @@ turnEvent (outcome.Refused number) = entryRefused number
 unfoldable pub eventOf : List ℕ → Entry → Event
 eventOf arena entry =
     cond (isTurn entry) (turnEvent (outcomeOf (turnOn arena (entry .worker))))
-    (judged (startRefusals arena (entry .worker) (entry .act) (entry .key)) entryRefused callStarted)
+    (judged (startRefusals arena (entry .worker) (entry .act) (entry .key) (entry .length)) entryRefused callStarted)
 
 -- the arena after an entry; a refused one leaves it as it was
 unfoldable pub after : List ℕ → Entry → List ℕ
 after arena entry =
-    cond (isTurn entry) (turnArena arena (entry .worker)) (startArena arena (entry .worker) (entry .act) (entry .key))
+    cond (isTurn entry) (turnArena arena (entry .worker)) (startArena arena (entry .worker) (entry .act) (entry .key) (entry .length))
 
 -- the kinds of events that a history and its totals ask for
 abbrev pub isStarted : Event → Bool

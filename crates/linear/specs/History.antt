@@ -9,16 +9,17 @@ use Rattle.worker.specs.Worker.{contains, within}
 use Rattle.worker.specs.Report.{answerNumber}
 use Rattle.worker.specs.declared.report.Answer.the-variants.{No, Full}
 use Rattle.words.specs.Records.{workerAt}
-use Rattle.linear.specs.Lists.{filter, member, timesFrom, first, latest}
-use Rattle.linear.specs.Sets.{setOf}
+use Rattle.linear.specs.Lists.{filter, timesFrom, first, latest}
+use Rattle.linear.specs.Sets.{member, setOf}
 use Rattle.linear.specs.Entries.{Entry, Event, eventOf, after, isStarted, isReported, isRefused, isWaits, isFinished, eventValues}
 
 -- a call record: worker, operation, key, start, point, finish, answer; 0 stands for a point or finish not reached, and for the answer
--- of a call without a point
+-- of a call without a point. Beside them the length that its start carries, which no row of records has
 pub record Call : Type 0 where
   pub worker : ℕ
   pub operation : ℕ
   pub key : ℕ
+  pub length : ℕ
   pub start : ℕ
   pub point : ℕ
   pub finish : ℕ
@@ -54,7 +55,7 @@ isLate operation answer = eqb operation contains && eqb answer (answerNumber No)
 
 -- entries are counted from 1
 unfoldable pub entryAt : List Entry → ℕ → Entry
-entryAt entries time = getD entries (time - 1) (record { worker = 0; act = 0; key = 0 })
+entryAt entries time = getD entries (time - 1) (record { worker = 0; act = 0; key = 0; length = 0 })
 
 -- a list of entries, and the arena that its first one gets
 module _ (initial : List ℕ) (entries : List Entry) where
@@ -115,6 +116,7 @@ module _ (initial : List ℕ) (entries : List Entry) where
         worker = entry .worker;
         operation = entry .act;
         key = entry .key;
+        length = entry .length;
         start = start;
         point = pointOf entry start decision answer;
         finish = finish;

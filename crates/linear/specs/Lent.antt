@@ -3,7 +3,7 @@ use Prim.Native.Nat.{ℕ}
 use mathlib.Core.Path.{_≡_}
 use mathlib.Core.List.{List, [], _++_}
 use lib.ListN.{drop}
-use Rattle.words.specs.Layout.{layoutNumber, total}
+use Rattle.words.specs.Layout.{total}
 use Rattle.words.specs.Replies.{accepted, replied}
 use Rattle.words.specs.Header.{headerRefusals}
 use Rattle.arena.specs.Init.{freshWords, initAnswer, initArena}
@@ -21,20 +21,20 @@ abbrev pub MoreUnseen : Type 0
 MoreUnseen = (arena more : List ℕ) (entry : Entry) → replied (headerRefusals arena) [] ≡ accepted [] → Unseen arena more entry
 
 -- what init leaves in a lent slice: a list from there comes to what it comes to from a fresh arena, with the words past the total behind
-pub record AsFresh (lent : List ℕ) (workers nodes : ℕ) (entries : List Entry) : Type 0 where
-  pub events : (time : ℕ) → eventAt (initArena lent workers nodes) entries time ≡ eventAt (freshWords workers nodes) entries time
+pub record AsFresh (lent : List ℕ) (layout workers nodes : ℕ) (entries : List Entry) : Type 0 where
+  pub events : (time : ℕ) → eventAt (initArena lent layout workers nodes) entries time ≡ eventAt (freshWords layout workers nodes) entries time
   pub words : (time : ℕ) →
-      arenaAt (initArena lent workers nodes) entries time
-      ≡ arenaAt (freshWords workers nodes) entries time ++ drop (total layoutNumber workers nodes) lent
+      arenaAt (initArena lent layout workers nodes) entries time
+      ≡ arenaAt (freshWords layout workers nodes) entries time ++ drop (total layout workers nodes) lent
   -- and demand 3 holds of it there
-  pub linearizable : Linearizable (initArena lent workers nodes) entries
-  pub unbroken : Unbroken (initArena lent workers nodes) entries
-  pub exact-sets : ExactSets (initArena lent workers nodes) entries
-  pub resting : Resting (initArena lent workers nodes) entries
-  pub waiting : Waiting (initArena lent workers nodes) entries
+  pub linearizable : Linearizable (initArena lent layout workers nodes) entries
+  pub unbroken : Unbroken (initArena lent layout workers nodes) entries
+  pub exact-sets : ExactSets (initArena lent layout workers nodes) entries
+  pub resting : Resting (initArena lent layout workers nodes) entries
+  pub waiting : Waiting (initArena lent layout workers nodes) entries
 
 -- so it is in every slice that init accepts (`LentLaws.as-fresh`)
 abbrev pub LaidAsFresh : Type 0
 LaidAsFresh =
-    (lent : List ℕ) (workers nodes : ℕ) (entries : List Entry) → initAnswer lent workers nodes ≡ accepted [] →
-    AsFresh lent workers nodes entries
+    (lent : List ℕ) (layout workers nodes : ℕ) (entries : List Entry) → initAnswer lent layout workers nodes ≡ accepted [] →
+    AsFresh lent layout workers nodes entries

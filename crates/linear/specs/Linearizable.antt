@@ -12,12 +12,11 @@ use Rattle.worker.specs.declared.report.Answer.{Answer}
 use Rattle.worker.specs.declared.report.Report.the-variants.{Finished}
 use Rattle.words.specs.Layout.{workersOf}
 use Rattle.words.specs.Records.{workerAt}
-use Rattle.linear.specs.Lists.{member}
-use Rattle.linear.specs.Sets.{nodeIn, ChainWhole, setOf, InSet}
+use Rattle.linear.specs.Sets.{Label, nodeIn, ChainWhole, setOf, InSet}
 use Rattle.linear.specs.Entries.{Entry, isTurn, turnReported, entryRefused}
 use Rattle.linear.specs.History.{Call, Wait, entryAt, arenaAt, eventAt, calls, waits}
 use Rattle.linear.specs.Order.{inOrder}
-use Rattle.linear.specs.Sequential.{answersTo, keysAfter}
+use Rattle.linear.specs.Sequential.{answersTo, labelsAfter}
 
 -- a list of entries, and the arena that its first one gets
 module _ (initial : List ℕ) (entries : List Entry) where
@@ -43,8 +42,8 @@ module _ (initial : List ℕ) (entries : List Entry) where
     -- a call's answer is the one that its worker reports at its finish
     pub told-answer : (call : Call) → List·Memᴰ call (calls initial entries) → call .finish ≢ 0 →
         Tells (call .worker) (call .answer) (call .finish)
-    -- the sequential set holds exactly the arena's set
-    pub same-keys : keysAfter [] (inOrder initial entries) ≡ setOf (arenaAt initial entries (length entries))
+    -- the sequential set holds exactly the arena's set, and each node of the set the length of the add that put its key there
+    pub same-labels : labelsAfter [] (inOrder initial entries) ≡ setOf (arenaAt initial entries (length entries))
 
   -- beside it: no turn from a fresh arena meets 6 or 7
   abbrev pub Unbroken : Type 0
@@ -52,12 +51,12 @@ module _ (initial : List ℕ) (entries : List Entry) where
       (time : ℕ) → isTurn (entryAt entries time) ≡ true →
       (eventAt initial entries time ≢ entryRefused brokenRecord) × (eventAt initial entries time ≢ entryRefused brokenChain)
 
-  -- and at every time the chain is whole, and the keys of the set are those of document 01's words
+  -- and at every time the chain is whole, and the labels of the set are those of document 01's words
   abbrev pub ExactSets : Type 0
   ExactSets =
       (time : ℕ) →
       ChainWhole (arenaAt initial entries time)
-      × ((key : ℕ) → (member key (setOf (arenaAt initial entries time)) ≡ true) ↔ InSet (arenaAt initial entries time) key)
+      × ((label : Label) → List·Memᴰ label (setOf (arenaAt initial entries time)) ↔ InSet (arenaAt initial entries time) label)
 
   -- and an idle worker has the idle record, so it keeps no node from being free
   abbrev pub Resting : Type 0

@@ -1,17 +1,12 @@
--- Lists: those that pass a test, keys that are in a list, the first and the last time at which a test holds, and lists in which every two
+-- Lists: those that pass a test, the first and the last time at which a test holds, and lists in which every two
 -- are related.
-use Prim.Native.Nat.{ℕ, zero, suc, _<_}
+use Prim.Native.Nat.{ℕ, zero, suc}
 use mathlib.Core.List.{List, [], _∷_}
-use mathlib.Core.Bool.{Bool, false, cond, _||_}
-use lib.Dec.{eqb}
+use mathlib.Core.Bool.{Bool, cond}
 
 unfoldable pub filter : {A : Type 0} → (A → Bool) → List A → List A
 filter test [] = []
 filter test (x ∷ xs) = let others = filter test xs in cond (test x) (x ∷ others) others
-
-unfoldable pub member : ℕ → List ℕ → Bool
-member key [] = false
-member key (other ∷ keys) = eqb key other || member key keys
 
 -- so many times, from `time` on
 unfoldable pub timesFrom : ℕ → ℕ → List ℕ
@@ -39,7 +34,3 @@ infixr 5 _ahead_
 pub data Pairs {A : Type 0} (R : A → A → Type 0) : List A → Type 0 where
   alone : Pairs R []
   _ahead_ : {x : A} {xs : List A} → Each (R x) xs → Pairs R xs → Pairs R (x ∷ xs)
-
--- keys rise
-abbrev pub Rising : List ℕ → Type 0
-Rising = Pairs (λ a b. a < b)

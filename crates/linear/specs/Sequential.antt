@@ -1,4 +1,4 @@
--- The sequential set (document 01: the plain set): its keys as a rising list, empty at first.
+-- The sequential set (document 01: the plain set): its labels as a list that rises by key, empty at first.
 use Prim.Native.Nat.{ℕ}
 use mathlib.Core.List.{List, [], _∷_}
 use mathlib.Core.Bool.{Bool, cond}
@@ -7,56 +7,59 @@ use Rattle.worker.specs.Worker.{add, remove}
 use Rattle.worker.specs.Report.{answerNumber}
 use Rattle.worker.specs.declared.report.Answer.{Answer}
 use Rattle.worker.specs.declared.report.Answer.the-variants.{Yes, No, Full}
-use Rattle.linear.specs.Lists.{member}
+use Rattle.linear.specs.Sets.{Label, member}
 use Rattle.linear.specs.History.{Call}
 
--- the keys with one more, in its place, and without one
-unfoldable pub including : ℕ → List ℕ → List ℕ
-including key [] = key ∷ []
-including key (other ∷ keys) =
-    let later = including key keys in cond (ltb key other) (key ∷ other ∷ keys) (other ∷ later)
+-- the labels with one more, in its place, and without the one of a key
+unfoldable pub including : Label → List Label → List Label
+including label [] = label ∷ []
+including label (other ∷ labels) =
+    let later = including label labels in cond (ltb (label .key) (other .key)) (label ∷ other ∷ labels) (other ∷ later)
 
-unfoldable pub excluding : ℕ → List ℕ → List ℕ
+unfoldable pub excluding : ℕ → List Label → List Label
 excluding key [] = []
-excluding key (other ∷ keys) = let later = excluding key keys in cond (eqb key other) later (other ∷ later)
+excluding key (other ∷ labels) = let later = excluding key labels in cond (eqb key (other .key)) later (other ∷ later)
 
--- what the set answers, and its keys afterwards
+-- what the set answers, and its labels afterwards
 pub record Response : Type 0 where
   pub answer : ℕ
-  pub keys : List ℕ
+  pub labels : List Label
 
-abbrev pub responds : Answer → List ℕ → Response
-responds answer keys = record { answer = answerNumber answer; keys = keys }
+abbrev pub responds : Answer → List Label → Response
+responds answer labels = record { answer = answerNumber answer; labels = labels }
 
--- add, key absent: told full, it answers full and stays as it is; otherwise yes, and the key goes in. Key present: no, whatever it was
--- told
-abbrev pub addTo : List ℕ → ℕ → Bool → Bool → Response
-addTo keys key toldFull present =
-    cond present (responds No keys) (cond toldFull (responds Full keys) (responds Yes (including key keys)))
+-- add, key absent: told full, it answers full and stays as it is; otherwise yes, and the key goes in, with the length of this add. Key
+-- present: no, whatever it was told
+abbrev pub addTo : List Label → Label → Bool → Bool → Response
+addTo labels label toldFull present =
+    cond present (responds No labels) (cond toldFull (responds Full labels) (responds Yes (including label labels)))
 
 -- remove: present, yes, and the key goes out; absent, no
-abbrev pub removeFrom : List ℕ → ℕ → Bool → Response
-removeFrom keys key present = cond present (responds Yes (excluding key keys)) (responds No keys)
+abbrev pub removeFrom : List Label → ℕ → Bool → Response
+removeFrom labels key present = cond present (responds Yes (excluding key labels)) (responds No labels)
 
 -- contains: yes if present, else no; nothing changes
-abbrev pub lookIn : List ℕ → Bool → Response
-lookIn keys present = cond present (responds Yes keys) (responds No keys)
+abbrev pub lookIn : List Label → Bool → Response
+lookIn labels present = cond present (responds Yes labels) (responds No labels)
 
--- what it is fed of a call: operation, key, and whether an add's answer is full
-unfoldable pub responseTo : List ℕ → ℕ → ℕ → Bool → Response
-responseTo keys operation key toldFull =
-    let present = member key keys in
-    cond (eqb operation add) (addTo keys key toldFull present)
-    (cond (eqb operation remove) (removeFrom keys key present) (lookIn keys present))
+-- what it is fed of a call: operation, key and length as its start carries them, and whether an add's answer is full
+unfoldable pub responseTo : List Label → ℕ → Label → Bool → Response
+responseTo labels operation label toldFull =
+    let present = member (label .key) labels in
+    cond (eqb operation add) (addTo labels label toldFull present)
+    (cond (eqb operation remove) (removeFrom labels (label .key) present) (lookIn labels present))
 
-abbrev pub fed : List ℕ → Call → Response
-fed keys call = responseTo keys (call .operation) (call .key) (eqb (call .answer) (answerNumber Full))
+abbrev pub labelOf : Call → Label
+labelOf call = record { key = call .key; length = call .length }
 
--- calls one after another: the set's answers, and its keys at the end
-unfoldable pub answersTo : List ℕ → List Call → List ℕ
-answersTo keys [] = []
-answersTo keys (call ∷ calls) = let response = fed keys call in response .answer ∷ answersTo (response .keys) calls
+abbrev pub fed : List Label → Call → Response
+fed labels call = responseTo labels (call .operation) (labelOf call) (eqb (call .answer) (answerNumber Full))
 
-unfoldable pub keysAfter : List ℕ → List Call → List ℕ
-keysAfter keys [] = keys
-keysAfter keys (call ∷ calls) = keysAfter (fed keys call .keys) calls
+-- calls one after another: the set's answers, and its labels at the end
+unfoldable pub answersTo : List Label → List Call → List ℕ
+answersTo labels [] = []
+answersTo labels (call ∷ calls) = let response = fed labels call in response .answer ∷ answersTo (response .labels) calls
+
+unfoldable pub labelsAfter : List Label → List Call → List Label
+labelsAfter labels [] = labels
+labelsAfter labels (call ∷ calls) = labelsAfter (fed labels call .labels) calls

@@ -1,11 +1,11 @@
 -- Laws that several proofs cite.
 use Prim.Native.Nat.{ℕ, zero, suc, _≤_, _<_, zero-le}
-use mathlib.Core.Path.{_≡_, refl}
-use mathlib.Core.Bool.{Bool, true, false, _&&_, and-eq-true-iff}
+use mathlib.Core.Path.{_≡_, refl, sym}
+use mathlib.Core.Bool.{Bool, true, false, cond, _&&_, and-eq-true-iff}
 use native.Mathlib.Omega.{arith}
 use lib.Dec.{leb}
-use borrow.Author.Tests.{le-leb, lt-leb, leb-true}
-use Rattle.worker.specs.Worker.{within}
+use borrow.Author.Tests.{le-leb, lt-leb, leb-true, eqb-true}
+use Rattle.worker.specs.Worker.{within, add, contains, isKey, carries, isCall}
 
 -- what the default arm of a match on 0, 1, .., k - 1 knows: the number is none of these
 abbrev pub NoneBelow : ℕ → ℕ → Type 0
@@ -40,3 +40,19 @@ module _ (low high n : ℕ) where
   pub range-bounds : within low high n ≡ true → (low ≤ n) × (n ≤ high)
   range-bounds e =
       let both = and-eq-true-iff (leb low n) (leb n high) .0 e in (leb-true low n (both .0), leb-true n high (both .1))
+
+-- what is known of a call
+module _ (lengths : Bool) (operation key length : ℕ) (call : isCall lengths operation key length ≡ true) where
+  pub call-parts : (within add contains operation ≡ true) × (isKey key ≡ true) × (carries lengths operation key length ≡ true)
+  call-parts =
+      let all = and-eq-true-iff _ (carries lengths operation key length) .0 call in
+      let both = and-eq-true-iff (within add contains operation) (isKey key) .0 (all .0) in
+      (both .0, both .1, all .1)
+
+  -- where nodes have no length, its start carries none
+  pub call-length : cond lengths length 0 ≡ length
+  call-length = go lengths (call-parts .2)
+    where
+      go : (lengths : Bool) → carries lengths operation key length ≡ true → cond lengths length 0 ≡ length
+      go true carried = refl
+      go false carried = sym (eqb-true length 0 carried)
