@@ -2,13 +2,24 @@
 use Prim.Native.Nat.{ℕ, suc, _+_, _≤_, _<_}
 use mathlib.Core.Path.{_≡_, refl, ap}
 use mathlib.Core.List.{List, [], _∷_}
-use mathlib.Core.Bool.{true, false, and-false}
+use mathlib.Core.Bool.{Bool, true, false, cond, and-false}
+use native.Mathlib.Omega.{arith}
 use native.Mathlib.Numerals.{add-one}
 use lib.ListN.{length, getD, drop, drop-of-length-le}
 use lib.Seq.{drop-cons}
 use lib.Dec.{eqb}
 use borrow.Author.Tests.{eq-eqb, ne-eqb}
 use Rattle.bench_input.specs.Bytes.{placeOf, same}
+
+-- the first mark stands in the text, or there is none and its place is the end
+pub place-within : (mark : ℕ) (text : List ℕ) → placeOf mark text ≤ length text
+unfolding placeOf
+place-within mark [] = omega arith
+place-within mark (byte ∷ text) = go (eqb byte mark) (place-within mark text)
+  where
+    go : (t : Bool) → placeOf mark text ≤ length text → cond t 0 (suc (placeOf mark text)) ≤ suc (length text)
+    go true h = omega arith
+    go false h = omega arith
 
 -- the first mark from place i on: it is there, it is not there, the text ends there
 module _ (mark : ℕ) (text : List ℕ) (i : ℕ) where

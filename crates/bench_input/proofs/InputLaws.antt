@@ -13,11 +13,11 @@ use types.Run.{OneOf}
 use lib.ListN.{length, take, replicate, length-append, length-replicate}
 use lib.Seq.{sets}
 use borrow.Author.Tests.{le-leb, lt-leb, lt-ltb, le-ltb}
-use Rattle.words.specs.Layout.{goodCounts}
+use Rattle.words.specs.Layout.{layout2, goodCounts}
 use Rattle.words.proofs.Runs.{sets-append, length-copies}
 use Rattle.bench_input.specs.Bytes.{lineFeed, parts, placeOf}
 use Rattle.bench_input.specs.Lines.{mostEntries, lineOf}
-use Rattle.bench_input.specs.Input.{mostBytes, entry, Reading, planned, badLine, withLine, linesFrom, boardLine, inputLines}
+use Rattle.bench_input.specs.Input.{mostBytes, entryWidth, entry, Reading, planned, badLine, withLine, linesFrom, boardLine, inputLines}
 use Rattle.bench_input.specs.Input.{readingOf, parsedOf, scheduled}
 use Rattle.bench_input.specs.declared.lines.Line.{Line}
 use Rattle.bench_input.specs.declared.lines.Line.the-variants.{Board, Entries, Bad}
@@ -34,17 +34,17 @@ Says reading schedule answer words = (answer ≡ parsedOf reading) × (words ≡
 pub not-entries : (entries : List (List ℕ)) (line : Line) → OneOf (0 ∷ 2 ∷ []) (tagOf the-type line) → withLine entries line ≡ none
 unfolding withLine
 not-entries entries (Board workers nodes) t = refl
-not-entries entries (Entries worker act key count) t = ⊎-elim (λ e. absurd (omega arith)) (λ e. absurd (omega arith)) t
+not-entries entries (Entries worker act key cells count) t = ⊎-elim (λ e. absurd (omega arith)) (λ e. absurd (omega arith)) t
 not-entries entries Bad t = refl
 
 -- the entries of a line, behind those that there are
-module _ (entries : List (List ℕ)) (worker act key count : ℕ) where
+module _ (entries : List (List ℕ)) (worker act key cells count : ℕ) where
   pub more-entries : length entries + count ≤ mostEntries →
-      withLine entries (Entries worker act key count) ≡ some (entries ++ replicate count (entry worker act key))
+      withLine entries (Entries worker act key cells count) ≡ some (entries ++ replicate count (entry worker act key cells))
   unfolding withLine
   more-entries h = rw (le-leb (length entries + count) mostEntries h)
 
-  pub too-many : mostEntries < length entries + count → withLine entries (Entries worker act key count) ≡ none
+  pub too-many : mostEntries < length entries + count → withLine entries (Entries worker act key cells count) ≡ none
   unfolding withLine
   too-many h = rw (lt-leb (length entries + count) mostEntries h)
 
@@ -62,7 +62,7 @@ module _ (workers nodes : ℕ) where
   pub record Read (text schedule rest words : List ℕ) (line count : ℕ) : Type 0 where
     pub entries : List (List ℕ)
     pub counted : length entries ≡ count
-    pub sized : length (flatten entries) ≡ 3 * count
+    pub sized : length (flatten entries) ≡ entryWidth * count
     pub written : words ≡ sets schedule 0 (flatten entries)
     pub onward : allLines text ≡ linesFrom workers nodes line entries (parts lineFeed rest)
 
@@ -124,19 +124,19 @@ module _ (workers nodes : ℕ) where
         (rw (← r .counted) (sym (ap parsedOf e)), r .written ∙ sym (ap (scheduled schedule) e))
 
     -- a line of entries is read
-    pub read-on : (at worker act key more : ℕ) (after : List ℕ) → at ≡ placeOf lineFeed rest → at < length rest →
-        lineOf (take at rest) ≡ Entries worker act key more → count + more ≤ mostEntries →
-        after ≡ sets words (3 * count) (flatten (replicate more (entry worker act key))) →
+    pub read-on : (at worker act key cells more : ℕ) (after : List ℕ) → at ≡ placeOf lineFeed rest → at < length rest →
+        lineOf (take at rest) ≡ Entries worker act key cells more → count + more ≤ mostEntries →
+        after ≡ sets words (entryWidth * count) (flatten (replicate more (entry worker act key cells))) →
         Read text schedule (behind at rest) after (line + 1) (count + more)
-    read-on at worker act key more after found h e k w =
-        let new = replicate more (entry worker act key) in
+    read-on at worker act key cells more after found h e k w =
+        let new = replicate more (entry worker act key cells) in
         let few : length (r .entries) + more ≤ mostEntries = rw (r .counted) k in
         let next : withLine (r .entries) (lineOf (take at rest)) ≡ some (r .entries ++ new) =
-        rw e (more-entries (r .entries) worker act key more few) in
+        rw e (more-entries (r .entries) worker act key cells more few) in
         record {
           entries = r .entries ++ new;
           counted = rw (length-append, length-replicate, r .counted);
-          sized = rw (flatten-append, length-append, r .sized, length-copies more (entry worker act key)) (omega arith);
+          sized = rw (flatten-append, length-append, r .sized, length-copies more (entry worker act key cells)) (omega arith);
           written = rw (w, r .written, flatten-append, sets-append, zero-add, r .sized);
           onward = rw add-one (r .onward ∙ line-good line (r .entries) rest at found h (r .entries ++ new) next);
         }
@@ -171,13 +171,13 @@ module _ (input : List ℕ) (few : length input ≤ mostBytes) (at : ℕ) (found
       where
         go : (line : Line) → OneOf (1 ∷ 2 ∷ []) (tagOf the-type line) → boardLine line (parts lineFeed (behind at input)) ≡ badLine 1 []
         go (Board workers nodes) t = ⊎-elim (λ e. absurd (omega arith)) (λ e. absurd (omega arith)) t
-        go (Entries worker act key count) t = refl
+        go (Entries worker act key cells count) t = refl
         go Bad t = refl
 
     -- `board W N`
     module _ (workers nodes : ℕ) (board : lineOf (take at input) ≡ Board workers nodes) where
-      pub bad-counts : goodCounts workers nodes ≡ false → readingOf input ≡ badLine 1 []
+      pub bad-counts : goodCounts layout2 workers nodes ≡ false → readingOf input ≡ badLine 1 []
       bad-counts e = first-line ∙ rw (board, e)
 
-      pub good-counts : goodCounts workers nodes ≡ true → readingOf input ≡ allLines workers nodes (behind at input)
+      pub good-counts : goodCounts layout2 workers nodes ≡ true → readingOf input ≡ allLines workers nodes (behind at input)
       good-counts e = first-line ∙ rw (board, e)

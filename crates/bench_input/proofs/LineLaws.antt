@@ -1,16 +1,21 @@
--- Laws of a text taken apart at its first mark, and of a line's fields.
+-- Laws of a text taken apart at its first mark, and of a line's last field.
 use Prim.Native.Nat.{ℕ, suc, _+_, _-_, _≤_, _<_}
 use mathlib.Core.Path.{_≡_, refl, ap}
 use mathlib.Core.List.{List, [], _∷_}
 use mathlib.Core.Bool.{Bool, true, false, cond}
+use mathlib.Core.Logic.{⊎-elim}
+use native.Mathlib.Nat.{eq-or-lt-of-le}
 use native.Mathlib.Omega.{arith}
 use native.Mathlib.Numerals.{add-one}
 use lib.ListN.{length, take, drop, length-drop}
 use lib.Seq.{take-all}
-use lib.Dec.{eqb}
+use lib.Dec.{eqb, ltb, leb·zero, leb·suc-suc}
+use borrow.Author.Tests.{lt-ltb, le-ltb}
 use Rattle.bench_input.specs.Bytes.{space, onFirst, parts, placeOf}
-use Rattle.bench_input.specs.Lines.{fieldsLine}
+use Rattle.bench_input.specs.Lines.{longLine, withNumber, lastLine}
 use Rattle.bench_input.specs.declared.lines.Line.the-variants.{Bad}
+use Rattle.bench_input.proofs.ByteLaws.{place-within}
+use Rattle.bench_input.proofs.NumberLaws.{no-number}
 
 -- behind a place, up to the end
 abbrev pub behind : ℕ → List ℕ → List ℕ
@@ -34,44 +39,40 @@ some-part P h mark (byte ∷ text) = go (eqb byte mark) (parts mark text)
     go false [] = h (byte ∷ []) []
     go false (part ∷ others) = h (byte ∷ part) others
 
--- no mark: the text is the one part
-pub whole-part : (mark : ℕ) (text : List ℕ) → length text ≤ placeOf mark text → parts mark text ≡ text ∷ []
-unfolding parts placeOf
-whole-part mark [] h = refl
-whole-part mark (byte ∷ text) h = go (eqb byte mark) h (λ k. whole-part mark text k)
-  where
-    go : (t : Bool) → suc (length text) ≤ cond t 0 (suc (placeOf mark text)) →
-        (length text ≤ placeOf mark text → parts mark text ≡ text ∷ []) →
-        cond t ([] ∷ parts mark text) (onFirst byte (parts mark text)) ≡ (byte ∷ text) ∷ []
-    go true h more = absurd (omega arith)
-    go false h more = ap (onFirst byte) (more (omega arith))
+-- a text cut at a place: the part before it, and those behind it, if the place is in the text
+abbrev cut : ℕ → ℕ → List ℕ → List (List ℕ)
+cut mark at text = take at text ∷ cond (ltb at (length text)) (parts mark (drop (suc at) text)) []
 
--- a mark: the part before it, and those behind it
-pub first-part : (mark : ℕ) (text : List ℕ) → placeOf mark text < length text →
-    parts mark text ≡ take (placeOf mark text) text ∷ parts mark (drop (suc (placeOf mark text)) text)
+-- a text's parts are those of the text cut at its first mark
+parts-cut : (mark : ℕ) (text : List ℕ) → parts mark text ≡ cut mark (placeOf mark text) text
 unfolding parts placeOf
-first-part mark [] h = absurd (omega arith)
-first-part mark (byte ∷ text) h = go (eqb byte mark) h (λ k. first-part mark text k)
+parts-cut mark [] = refl
+parts-cut mark (byte ∷ text) = go (eqb byte mark) (ap (onFirst byte) (parts-cut mark text))
   where
-    place : Bool → ℕ
-    place t = cond t 0 (suc (placeOf mark text))
-
-    go : (t : Bool) → place t < suc (length text) →
-        (placeOf mark text < length text →
-        parts mark text ≡ take (placeOf mark text) text ∷ parts mark (drop (suc (placeOf mark text)) text)) →
-        cond t ([] ∷ parts mark text) (onFirst byte (parts mark text))
-        ≡ take (place t) (byte ∷ text) ∷ parts mark (drop (suc (place t)) (byte ∷ text))
-    go true h more = refl
-    go false h more = ap (onFirst byte) (more (omega arith))
+    go : (t : Bool) → onFirst byte (parts mark text) ≡ onFirst byte (cut mark (placeOf mark text) text) →
+        cond t ([] ∷ parts mark text) (onFirst byte (parts mark text)) ≡ cut mark (cond t 0 (suc (placeOf mark text))) (byte ∷ text)
+    go true e = rw (leb·suc-suc 0 (length text), leb·zero)
+    go false e = rw (leb·suc-suc (suc (placeOf mark text)) (length text)) e
 
 -- the same, as the code has them
 module _ (mark : ℕ) (text : List ℕ) (at : ℕ) (found : at ≡ placeOf mark text) where
+  pub some-parts : parts mark text ≡ cut mark at text
+  some-parts = rw found (parts-cut mark text)
+
+  pub last-part : length text ≤ at → parts mark text ≡ take at text ∷ []
+  last-part h = rw (some-parts, le-ltb at (length text) h)
+
   pub one-part : length text ≤ at → parts mark text ≡ text ∷ []
-  one-part h = whole-part mark text (omega arith)
+  one-part h = rw (last-part h, take-all at text h)
 
   pub more-parts : at < length text → parts mark text ≡ take at text ∷ parts mark (behind at text)
-  more-parts h = rw (behind-is, found) (first-part mark text (omega arith))
+  more-parts h = rw (some-parts, lt-ltb at (length text) h, behind-is)
 
--- there is no line of four fields or more
-pub fourth-field : (word a b text : List ℕ) → fieldsLine (word ∷ a ∷ b ∷ parts space text) ≡ Bad
-fourth-field word a b text = some-part (λ ps. fieldsLine (word ∷ a ∷ b ∷ ps) ≡ Bad) (λ part others. refl) space text
+-- behind two numbers, a text that is no number makes the line bad: one with a space in it too
+pub last-field : (word : List ℕ) (a b : ℕ) (text : List ℕ) → lastLine word a b (parts space text) ≡ withNumber text (longLine word a b)
+last-field word a b text =
+    ⊎-elim (λ none. rw (one-part space text _ refl (omega arith)))
+    (λ more.
+    rw (more-parts space text _ refl more, no-number text more)
+    (some-part (λ ps. lastLine word a b (take (placeOf space text) text ∷ ps) ≡ Bad) (λ part others. refl) space _))
+    (eq-or-lt-of-le (place-within space text))

@@ -1,8 +1,8 @@
 -- Laws of numbers read digit by digit.
-use Prim.Native.Nat.{ℕ, _+_, _≤_, _<_}
+use Prim.Native.Nat.{ℕ, suc, _+_, _≤_, _<_}
 use mathlib.Core.Path.{_≡_, refl}
 use mathlib.Core.List.{List, [], _∷_, foldl}
-use mathlib.Core.Bool.{true, false, cond, not, _&&_, and-false}
+use mathlib.Core.Bool.{Bool, true, false, cond, not, _&&_, and-false}
 use mathlib.Core.Option.{Option, none, some}
 use native.Mathlib.Nat.{le-refl, le-trans}
 use native.Mathlib.Omega.{arith}
@@ -10,8 +10,9 @@ use native.Mathlib.Numerals.{add-one}
 use lib.ListN.{length, getD, drop, drop-of-length-le}
 use lib.Seq.{drop-cons}
 use lib.Dec.{leb, eqb}
-use borrow.Author.Tests.{le-leb, lt-leb}
-use Rattle.bench_input.specs.Numbers.{digitZero, isDigit, allDigits, wellBegun, shifted, valueOf, digitsValue}
+use borrow.Author.Tests.{le-leb, lt-leb, eqb-true}
+use Rattle.bench_input.specs.Bytes.{space, placeOf}
+use Rattle.bench_input.specs.Numbers.{digitZero, isDigit, allDigits, wellBegun, shifted, valueOf, digitsValue, numberOf}
 
 -- what is made of the digits that are left, where those before them are worth `value`
 abbrev pub valueFrom : ℕ → List ℕ → Option ℕ
@@ -62,3 +63,22 @@ unfolding wellBegun
 longer-begin [] h = absurd (omega arith)
 longer-begin (byte ∷ []) h = absurd (omega arith)
 longer-begin (byte ∷ next ∷ text) h = refl
+
+-- a text with a space in it is no number
+space-in : (text : List ℕ) → placeOf space text < length text → allDigits text ≡ false
+unfolding allDigits placeOf
+space-in [] h = absurd (omega arith)
+space-in (byte ∷ text) h = go (eqb byte space) refl h (λ k. space-in text k)
+  where
+    go : (t : Bool) → eqb byte space ≡ t → cond t 0 (suc (placeOf space text)) < suc (length text) →
+        (placeOf space text < length text → allDigits text ≡ false) → isDigit byte && allDigits text ≡ false
+    go true e h more = rw (eqb-true byte space e)
+    go false e h more = rw (more (omega arith)) (and-false (isDigit byte))
+
+pub no-number : (text : List ℕ) → placeOf space text < length text → numberOf text ≡ none
+unfolding numberOf digitsValue
+no-number text h = rw (space-in text h) (go (wellBegun text))
+  where
+    go : (t : Bool) → cond {A = Option ℕ} t none none ≡ none
+    go true = refl
+    go false = refl

@@ -6,7 +6,7 @@ use mathlib.Core.Option.{Option, none, some, Option·map, Option·getD}
 use lib.ListN.{length, replicate}
 use lib.Seq.{sets}
 use lib.Dec.{leb, ltb}
-use Rattle.words.specs.Layout.{goodCounts}
+use Rattle.words.specs.Layout.{layout2, goodCounts}
 use Rattle.bench_input.specs.Bytes.{lineFeed, parts}
 use Rattle.bench_input.specs.Lines.{mostEntries, lineOf}
 use Rattle.bench_input.specs.declared.lines.Line.{Line}
@@ -18,9 +18,12 @@ use Rattle.bench_input.specs.declared.Parsed.the-variants.{Planned, BadL
 abbrev pub mostBytes : ℕ
 mostBytes = 16384
 
--- an entry of a schedule: worker, act, key
-abbrev pub entry : ℕ → ℕ → ℕ → List ℕ
-entry worker act key = worker ∷ act ∷ key ∷ []
+-- words of an entry of a schedule: worker, act, key, length (document 02, A2)
+abbrev pub entryWidth : ℕ
+entryWidth = 4
+
+abbrev pub entry : ℕ → ℕ → ℕ → ℕ → List ℕ
+entry worker act key cells = worker ∷ act ∷ key ∷ cells ∷ []
 
 -- what an input says: W, N and the entries; or the number of the first bad line, and the entries of the lines before it
 pub data Reading : Type 0 where
@@ -30,8 +33,8 @@ pub data Reading : Type 0 where
 -- the entries with those of a line behind them; none, where the line is not one of entries or passes 4,000 entries
 unfoldable pub withLine : List (List ℕ) → Line → Option (List (List ℕ))
 withLine entries (Board workers nodes) = none
-withLine entries (Entries worker act key count) =
-    cond (leb (length entries + count) mostEntries) (some (entries ++ replicate count (entry worker act key))) none
+withLine entries (Entries worker act key cells count) =
+    cond (leb (length entries + count) mostEntries) (some (entries ++ replicate count (entry worker act key cells))) none
 withLine entries Bad = none
 
 module _ (workers nodes : ℕ) where
@@ -46,10 +49,11 @@ module _ (workers nodes : ℕ) where
       (Option·map (λ more. linesFrom (suc line) more (next ∷ others)) (withLine entries (lineOf text)))
       (badLine line entries)
 
--- line 1 is `board W N`, with good counts
+-- line 1 is `board W N`, with good counts: a run lays layout 2 (document 02, A2)
 abbrev pub boardLine : Line → List (List ℕ) → Reading
-boardLine (Board workers nodes) others = cond (goodCounts workers nodes) (linesFrom workers nodes 2 [] others) (badLine 1 [])
-boardLine (Entries worker act key count) others = badLine 1 []
+boardLine (Board workers nodes) others =
+    cond (goodCounts layout2 workers nodes) (linesFrom workers nodes 2 [] others) (badLine 1 [])
+boardLine (Entries worker act key cells count) others = badLine 1 []
 boardLine Bad others = badLine 1 []
 
 -- an input without LF, as the empty one, has no good line: line 1

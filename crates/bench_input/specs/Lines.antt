@@ -1,8 +1,8 @@
--- A line of the input: `board W N`, `add w k`, `remove w k`, `contains w k` or `turn w n`.
+-- A line of the input: `board W N`, `add w k n`, `remove w k`, `contains w k` or `turn w n`.
 use Prim.Native.Nat.{ℕ}
 use mathlib.Core.List.{List, [], _∷_}
 use mathlib.Core.Bool.{cond}
-use mathlib.Core.Option.{Option, none, some}
+use mathlib.Core.Option.{Option·map, Option·getD}
 use Rattle.worker.specs.Worker.{add, remove, contains, within}
 use Rattle.bench_input.specs.Bytes.{bytesOf, space, parts, same}
 use Rattle.bench_input.specs.Numbers.{numberOf}
@@ -17,33 +17,43 @@ mostEntries = 4000
 abbrev pub turn : ℕ
 turn = 0
 
--- `turn w n`: n entries, 1 to 4,000, whose key is not looked at
+-- `turn w n`: n entries, 1 to 4,000, whose key and length are not looked at
 unfoldable pub turnLine : ℕ → ℕ → Line
-turnLine worker count = cond (within 1 mostEntries count) (Entries worker turn 0 count) Bad
+turnLine worker count = cond (within 1 mostEntries count) (Entries worker turn 0 0 count) Bad
 
--- the line by its first field, where the others are numbers; a line that starts a call is one entry
+-- a line of a word and two numbers; one that starts a call is one entry, and only an add has a length
 unfoldable pub commandLine : List ℕ → ℕ → ℕ → Line
 commandLine word a b =
     cond (same word (bytesOf "board")) (Board a b)
-    (cond (same word (bytesOf "add")) (Entries a add b 1)
-    (cond (same word (bytesOf "remove")) (Entries a remove b 1)
-    (cond (same word (bytesOf "contains")) (Entries a contains b 1)
+    (cond (same word (bytesOf "remove")) (Entries a remove b 0 1)
+    (cond (same word (bytesOf "contains")) (Entries a contains b 0 1)
     (cond (same word (bytesOf "turn")) (turnLine a b)
-    Bad))))
+    Bad)))
+
+-- a line of a word and three numbers: `add w k n` (document 02, A2), where any number n is a good length, for the run to judge
+unfoldable pub longLine : List ℕ → ℕ → ℕ → ℕ → Line
+longLine word a b c = cond (same word (bytesOf "add")) (Entries a add b c 1) Bad
 
 -- a field behind the first that is no number makes the line bad
-abbrev pub numbersLine : List ℕ → Option ℕ → Option ℕ → Line
-numbersLine word none b = Bad
-numbersLine word (some a) none = Bad
-numbersLine word (some a) (some b) = commandLine word a b
+abbrev pub withNumber : List ℕ → (ℕ → Line) → Line
+withNumber field line = Option·getD (Option·map line (numberOf field)) Bad
 
--- every line has three fields
+-- behind a word and two numbers stands no field, or one
+abbrev pub lastLine : List ℕ → ℕ → ℕ → List (List ℕ) → Line
+lastLine word a b [] = commandLine word a b
+lastLine word a b (c ∷ []) = withNumber c (longLine word a b)
+lastLine word a b (c ∷ d ∷ others) = Bad
+
+-- behind a word and a number stands a field at least
+abbrev pub numbersLine : List ℕ → ℕ → List (List ℕ) → Line
+numbersLine word a [] = Bad
+numbersLine word a (b ∷ others) = withNumber b (λ second. lastLine word a second others)
+
+-- so every line has three fields or four
 abbrev pub fieldsLine : List (List ℕ) → Line
 fieldsLine [] = Bad
 fieldsLine (word ∷ []) = Bad
-fieldsLine (word ∷ a ∷ []) = Bad
-fieldsLine (word ∷ a ∷ b ∷ []) = numbersLine word (numberOf a) (numberOf b)
-fieldsLine (word ∷ a ∷ b ∷ c ∷ others) = Bad
+fieldsLine (word ∷ a ∷ others) = withNumber a (λ first. numbersLine word first others)
 
 -- fields are parted by one space
 unfoldable pub lineOf : List ℕ → Line

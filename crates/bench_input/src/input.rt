@@ -5,7 +5,7 @@ ghost use Prim.Native.Nat.{_*_, _≤_};
 ghost use lib.ListN.{length, replicate};
 ghost use lib.Seq.{sets};
 ghost use Rattle.bench_input.specs.Bytes.{lineFeed, parts};
-ghost use Rattle.bench_input.specs.Input.{mostBytes, entry, linesFrom, readingOf, parsedOf, scheduled};
+ghost use Rattle.bench_input.specs.Input.{mostBytes, entryWidth, linesFrom, readingOf, parsedOf, scheduled};
 use crate::Parsed;
 use crate::Plan;
 use crate::bytes::LINE_FEED;
@@ -13,13 +13,16 @@ use crate::bytes::find;
 use crate::lines::Line;
 use crate::lines::MOST_ENTRIES;
 use crate::lines::line_of;
+use words::layout::LAYOUT_2;
 use words::layout::good_counts;
-use words::put;
+use words::write;
 
 const MOST_BYTES: usize = 16384;
 
-// Reads an input and writes the entries of its schedule, three words each. Where a line is bad, the entries of the lines before it
-// have been written.
+// Words of an entry: worker, act, key, length.
+pub const ENTRY_WIDTH: usize = 4;
+
+// Reads an input and writes the entries of its schedule. Where a line is bad, the entries of the lines before it have been written.
 pub fn parse(input: &[u8], schedule: &mut [u16]) -> Parsed
     ensures answer { λ r. ⌜ r ≡ parsedOf (readingOf (now (input .entry))) ⌝ }
     ensures words { λ _. ⌜ now (schedule .exit) ≡ scheduled (now (schedule .entry)) (readingOf (now (input .entry))) ⌝ }
@@ -34,7 +37,7 @@ pub fn parse(input: &[u8], schedule: &mut [u16]) -> Parsed
     let Line::Board(workers, nodes) = line_of(&input[..end]) else {
         return Parsed::BadLine(1);
     };
-    if !good_counts(workers, nodes) {
+    if !good_counts(LAYOUT_2, workers, nodes) {
         return Parsed::BadLine(1);
     }
     parse_entries(&input[end + 1..], workers, nodes, schedule)
@@ -59,6 +62,7 @@ fn parse_entries(text: &[u8], workers: u16, nodes: u16, schedule: &mut [u16]) ->
             worker,
             act,
             key,
+            length,
             count,
         } = line_of(&rest[..end])
         else {
@@ -67,7 +71,7 @@ fn parse_entries(text: &[u8], workers: u16, nodes: u16, schedule: &mut [u16]) ->
         if MOST_ENTRIES - entries < count {
             return Parsed::BadLine(line);
         }
-        write_entries(schedule, entries, count, worker, act, key);
+        write_entries(schedule, entries, count, &[worker, act, key, length]);
         entries += count;
         line += 1;
         rest = &rest[end + 1..];
@@ -80,16 +84,14 @@ fn parse_entries(text: &[u8], workers: u16, nodes: u16, schedule: &mut [u16]) ->
 }
 
 // So many equal entries, behind the first ones.
-fn write_entries(schedule: &mut [u16], first: u16, count: u16, worker: u16, act: u16, key: u16)
-    ensures { λ _. ⌜ now (schedule .exit) ≡ sets (now (schedule .entry)) (3 * first) (flatten (replicate count (entry worker act key))) ⌝ }
+fn write_entries(schedule: &mut [u16], first: u16, count: u16, entry: &[u16; ENTRY_WIDTH])
+    ensures { λ _. ⌜ now (schedule .exit) ≡ sets (now (schedule .entry)) (entryWidth * first) (flatten (replicate count (now (entry .entry)))) ⌝ }
 {
-    let mut at = 3 * (first as usize);
+    let mut at = ENTRY_WIDTH * (first as usize);
     let mut left = count;
     while 0 < left {
-        put(schedule, at, worker);
-        put(schedule, at + 1, act);
-        put(schedule, at + 2, key);
-        at += 3;
+        write(schedule, at, entry);
+        at += ENTRY_WIDTH;
         left -= 1;
     }
 }

@@ -4,6 +4,7 @@ mod input;
 mod lines;
 pub mod numbers;
 
+pub use input::ENTRY_WIDTH;
 pub use input::parse;
 
 // What a good input says: document 01's W and N, and how many entries its schedule has.

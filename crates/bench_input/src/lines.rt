@@ -1,7 +1,7 @@
 // A line of the input, without its LF.
 ghost use mathlib.Core.Path.{_≡_};
-ghost use Rattle.bench_input.specs.Numbers.{numberOf};
-ghost use Rattle.bench_input.specs.Lines.{turnLine, commandLine, numbersLine, lineOf};
+ghost use Rattle.bench_input.specs.Bytes.{space, parts};
+ghost use Rattle.bench_input.specs.Lines.{turnLine, commandLine, longLine, numbersLine, lineOf};
 use crate::bytes::SPACE;
 use crate::bytes::find;
 use crate::bytes::same;
@@ -16,6 +16,7 @@ pub(crate) enum Line {
         worker: u16,
         act: u16,
         key: u16,
+        length: u16,
         count: u16,
     },
     Bad,
@@ -34,27 +35,30 @@ pub(crate) fn line_of(line: &[u8]) -> Line
     }
     let rest = &line[first + 1..];
     let second = find(rest, SPACE);
+    let Number::Value(a) = number_of(&rest[..second]) else {
+        return Line::Bad;
+    };
     if rest.len() <= second {
         return Line::Bad;
     }
-    let last = &rest[second + 1..];
-    if find(last, SPACE) < last.len() {
-        return Line::Bad;
-    }
-    numbers_line(&line[..first], &rest[..second], last)
+    numbers_line(&line[..first], a, &rest[second + 1..])
 }
 
-// A line of three fields.
-fn numbers_line(word: &[u8], a: &[u8], b: &[u8]) -> Line
-    ensures { λ r. ⌜ r ≡ numbersLine (now (word .entry)) (numberOf (now (a .entry))) (numberOf (now (b .entry))) ⌝ }
+// A line of a word, a number and one or two fields. With further fields the last text has a space in it, and is no number.
+fn numbers_line(word: &[u8], a: u16, fields: &[u8]) -> Line
+    ensures { λ r. ⌜ r ≡ numbersLine (now (word .entry)) a (parts space (now (fields .entry))) ⌝ }
 {
-    let Number::Value(first) = number_of(a) else {
+    let end = find(fields, SPACE);
+    let Number::Value(b) = number_of(&fields[..end]) else {
         return Line::Bad;
     };
-    let Number::Value(second) = number_of(b) else {
+    if fields.len() <= end {
+        return command_line(word, a, b);
+    }
+    let Number::Value(c) = number_of(&fields[end + 1..]) else {
         return Line::Bad;
     };
-    command_line(word, first, second)
+    long_line(word, a, b, c)
 }
 
 // A line of a word and two numbers.
@@ -64,14 +68,11 @@ fn command_line(word: &[u8], a: u16, b: u16) -> Line
     if same(word, b"board") {
         return Line::Board(a, b);
     }
-    if same(word, b"add") {
-        return one_entry(a, Worker::ADD, b);
-    }
     if same(word, b"remove") {
-        return one_entry(a, Worker::REMOVE, b);
+        return one_entry(a, Worker::REMOVE, b, 0);
     }
     if same(word, b"contains") {
-        return one_entry(a, Worker::CONTAINS, b);
+        return one_entry(a, Worker::CONTAINS, b, 0);
     }
     if same(word, b"turn") {
         return turn_line(a, b);
@@ -79,13 +80,24 @@ fn command_line(word: &[u8], a: u16, b: u16) -> Line
     Line::Bad
 }
 
-fn one_entry(worker: u16, act: u16, key: u16) -> Line
-    ensures { λ r. ⌜ r ≡ Line.Entries worker act key 1 ⌝ }
+// A line of a word and three numbers.
+fn long_line(word: &[u8], a: u16, b: u16, c: u16) -> Line
+    ensures { λ r. ⌜ r ≡ longLine (now (word .entry)) a b c ⌝ }
+{
+    if same(word, b"add") {
+        return one_entry(a, Worker::ADD, b, c);
+    }
+    Line::Bad
+}
+
+fn one_entry(worker: u16, act: u16, key: u16, length: u16) -> Line
+    ensures { λ r. ⌜ r ≡ Line.Entries worker act key length 1 ⌝ }
 {
     Line::Entries {
         worker,
         act,
         key,
+        length,
         count: 1,
     }
 }
@@ -98,6 +110,7 @@ fn turn_line(worker: u16, count: u16) -> Line
             worker,
             act: TURN,
             key: 0,
+            length: 0,
             count,
         }
     } else {

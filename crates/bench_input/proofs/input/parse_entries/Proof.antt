@@ -48,17 +48,17 @@ too-many-entries c =
     let read = found .before .before .before .loop .inv .3 in
     read-bad _ _ read _ (found .before .find .ensures) (found .if1 .left)
     (ap (withLine (read .entries)) (sym (line .before .before .line-of .ensures) ∙ line .worker .given .1)
-    ∙ too-many (read .entries) _ _ _ _ (omega (arith, read .counted)))
+    ∙ too-many (read .entries) _ _ _ _ _ (omega (arith, read .counted)))
 
 loop-less : tie.Need-loop-less Inv-loop μ-loop
 loop-less c =
-    let found = c .before .before .before .before .before .before .before .before .before .before .before in
+    let found = c .before .before .before .before .before .before .before .before .before .before .before .before in
     let loop = found .before .before .before .loop in
     omega (arith, behind-length (found .before .find .result) (now (loop .rest)) (found .if1 .left))
 
 loop-again : tie.Need-loop-again Inv-loop μ-loop
 loop-again c =
-    let line = c .before .before .before .before .before .before .before in
+    let line = c .before .before .before .before .before .before .before .before in
     let found = line .before .before .before .before in
     let loop = found .before .before .before .loop in
     let args = found .before .before .before .before .before .before .args in
@@ -66,7 +66,7 @@ loop-again c =
       omega arith,
       omega (arith, behind-length (found .before .find .result) (now (loop .rest)) (found .if1 .left)),
       writes .kept .0 ∙ loop .inv .2,
-      read-on (args .workers) (args .nodes) (loop .inv .3) _ _ _ _ _ _ (found .before .find .ensures) (found .if1 .left)
+      read-on (args .workers) (args .nodes) (loop .inv .3) _ _ _ _ _ _ _ (found .before .find .ensures) (found .if1 .left)
           (sym (line .before .before .line-of .ensures) ∙ line .worker .given .1) (omega arith) (writes .ensures),
     )
 

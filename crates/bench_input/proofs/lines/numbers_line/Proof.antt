@@ -1,34 +1,62 @@
--- The first field that is no number decides, and then the word.
+-- The second number decides, and then whether a field stands behind it.
+use mathlib.Core.Path.{sym}
+use lib.Seq.{length-take-le}
 use borrow.Author.Needs.{needs}
+use Rattle.bench_input.specs.Bytes.{space}
+use Rattle.bench_input.proofs.ByteLaws.{place-within}
+use Rattle.bench_input.proofs.LineLaws.{some-parts, last-part, more-parts, last-field}
 use Rattle.bench_input.proofs.lines.numbers_line.Statement.{statement}
 use Rattle.bench_input.proofs.lines.numbers_line.Tie as tie
 
-first-bad : tie.Need-returns
-first-bad c = rw (← c .before .before .number-of .ensures, c .enum-told .given .1)
+field-length : tie.Need-slice-aggregate-number-of
+field-length c = sym (length-take-le _ _ (rw (c .before .find .ensures) (place-within _ _)))
 
-second-bad : tie.Need-returns-2
+second-bad : tie.Need-returns
 second-bad c =
-    let first = c .before .before .before .before in
+    let number = c .before .before in
+    rw (some-parts space _ _ (number .before .before .find .ensures), ← number .number-of .ensures, c .enum-told .given .1)
+
+three-fields : tie.Need-returns-2
+three-fields c =
+    let b = c .before .before .before in
+    let number = b .before .before in
     rw (
-      ← first .before .before .number-of .ensures,
-      first .first .given .1,
-      ← c .before .before .number-of2 .ensures,
+      last-part space _ _ (number .before .before .find .ensures) (c .before .if1 .taken),
+      ← number .number-of .ensures,
+      b .b .given .1,
+    ) (c .command-line .ensures)
+
+third-bad : tie.Need-returns-3
+third-bad c =
+    let last = c .before .before in
+    let b = last .before .before .before .before in
+    let number = b .before .before in
+    rw (
+      more-parts space _ _ (number .before .before .find .ensures) (last .before .before .if1 .left),
+      ← number .number-of .ensures,
+      b .b .given .1,
+      last-field,
+      ← last .number-of2 .ensures,
       c .enum-told2 .given .1,
     )
 
-both : tie.Need-returns-3
-both c =
-    let second = c .before .before in
-    let first = second .before .before .before .before in
+four-fields : tie.Need-returns-4
+four-fields c =
+    let last = c .before .before .before .before in
+    let b = last .before .before .before .before in
+    let number = b .before .before in
     rw (
-      ← first .before .before .number-of .ensures,
-      first .first .given .1,
-      ← second .before .before .number-of2 .ensures,
-      second .second .given .1,
-    ) (c .command-line .ensures)
+      more-parts space _ _ (number .before .before .find .ensures) (last .before .before .if1 .left),
+      ← number .number-of .ensures,
+      b .b .given .1,
+      last-field,
+      ← last .number-of2 .ensures,
+      c .before .before .c .given .1,
+    ) (c .long-line .ensures)
 
 pub numbers-line-spec : {M : Type 1} → statement M
 numbers-line-spec =
     tie.close
-    (tie.spec (search needs) (search needs) (search needs) first-bad (search needs) (search needs) (search needs) second-bad
-    (search needs) both)
+    (tie.spec (search needs) field-length (search needs) (search needs) (search needs) second-bad (search needs) three-fields
+    (search needs) (search needs) (search needs) (search needs) (search needs) (search needs) (search needs) third-bad
+    (search needs) four-fields)
