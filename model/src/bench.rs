@@ -1,8 +1,8 @@
-//! The bench program of document 01 ("Dagmar's bench program") with the waits of document 02, byte
-//! for byte.
+//! The bench program of document 01 ("Dagmar's bench program") with the waits and the lengths of
+//! document 02, byte for byte.
 
 use crate::arena::*;
-use crate::run::{run_traced, Call, Room, Trace, Wait};
+use crate::run::{run_traced, Call, Room, Trace, Wait, ENTRY_WORDS};
 use crate::turn::Answer;
 
 pub const MAX_BYTES: usize = 16_384;
@@ -68,7 +68,7 @@ fn read_input(input: &[u8]) -> Result<Input, usize> {
         line_number += 1;
         let (line, after) = take_line(rest).ok_or(line_number)?;
         entry_line(line, &mut schedule).ok_or(line_number)?;
-        if schedule.len() > 3 * MAX_ENTRIES {
+        if schedule.len() > ENTRY_WORDS * MAX_ENTRIES {
             return Err(line_number);
         }
         rest = after;
@@ -86,13 +86,12 @@ fn take_line(input: &[u8]) -> Option<(&[u8], &[u8])> {
     Some((&input[..end], &input[end + 1..]))
 }
 
-/// The word and the two numbers of a line, parted by one space each.
-fn three_fields(line: &[u8]) -> Option<(&[u8], u16, u16)> {
-    let fields: Vec<&[u8]> = line.split(|&byte| byte == b' ').collect();
-    match fields[..] {
-        [word, first, second] => Some((word, number(first)?, number(second)?)),
-        _ => None,
-    }
+/// The word and the numbers of a line, parted by one space each.
+fn fields(line: &[u8]) -> Option<(&[u8], Vec<u16>)> {
+    let mut fields = line.split(|&byte| byte == b' ');
+    let word = fields.next()?;
+    let numbers: Option<Vec<u16>> = fields.map(number).collect();
+    Some((word, numbers?))
 }
 
 /// A decimal number up to 65,535 without leading zeros.
@@ -112,30 +111,30 @@ fn number(field: &[u8]) -> Option<u16> {
 }
 
 fn board_line(line: &[u8]) -> Option<(u16, u16)> {
-    let (word, workers, nodes) = three_fields(line)?;
-    if word != b"board" {
-        return None;
+    let (word, numbers) = fields(line)?;
+    match (word, &numbers[..]) {
+        (b"board", &[workers, nodes]) => {
+            let shape = Shape::new(LAYOUT_2, workers, nodes)?;
+            Some((shape.workers, shape.nodes))
+        }
+        _ => None,
     }
-    Shape::new(workers, nodes)?;
-    Some((workers, nodes))
 }
 
 /// Adds the line's entries to the schedule.
 fn entry_line(line: &[u8], schedule: &mut Vec<u16>) -> Option<()> {
-    let (word, worker, second) = three_fields(line)?;
-    let operation = match word {
-        b"add" => ADD,
-        b"remove" => REMOVE,
-        b"contains" => CONTAINS,
-        b"turn" if (1..=MAX_ENTRIES).contains(&(second as usize)) => {
-            for _ in 0..second {
-                schedule.extend([worker, 0, 0]);
-            }
-            return Some(());
-        }
+    let (word, numbers) = fields(line)?;
+    let (entry, count) = match (word, &numbers[..]) {
+        (b"add", &[worker, key, length]) => ([worker, ADD, key, length], 1),
+        (b"remove", &[worker, key]) => ([worker, REMOVE, key, 0], 1),
+        (b"contains", &[worker, key]) => ([worker, CONTAINS, key, 0], 1),
+        (b"turn", &[worker, count]) => ([worker, 0, 0, 0], count as usize),
         _ => return None,
     };
-    schedule.extend([worker, operation, second]);
+    if !(1..=MAX_ENTRIES).contains(&count) {
+        return None;
+    }
+    schedule.extend(entry.repeat(count));
     Some(())
 }
 

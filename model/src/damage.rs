@@ -69,12 +69,10 @@ pub const DAMAGES: &[(&str, Change)] = &[
         edit_space(rng, input, ",")
     }),
     ("missing field", |rng, input| {
-        let gone = rng.index(3);
+        let gone = rng.next_u64() as usize;
         edit_lines(rng, input, |lines, at| {
             let mut fields: Vec<&str> = lines[at].split(' ').collect();
-            if gone < fields.len() {
-                fields.remove(gone);
-            }
+            fields.remove(gone % fields.len());
             lines[at] = fields.join(" ");
         })
     }),
@@ -162,12 +160,12 @@ fn edit_lines(rng: &mut Rng, input: &mut Vec<u8>, edit: impl FnOnce(&mut Vec<Str
     });
 }
 
-/// Puts something else for one of the two spaces of a line.
+/// Puts something else for the first or the last space of a line.
 fn edit_space(rng: &mut Rng, input: &mut Vec<u8>, instead: &str) {
-    let second = rng.chance(50);
+    let last = rng.chance(50);
     edit_lines(rng, input, |lines, at| {
         let line = &mut lines[at];
-        let space = if second {
+        let space = if last {
             line.rfind(' ')
         } else {
             line.find(' ')
@@ -178,13 +176,13 @@ fn edit_space(rng: &mut Rng, input: &mut Vec<u8>, instead: &str) {
     });
 }
 
-/// Rewrites one of the two numbers of a line.
+/// Rewrites one of the numbers of a line.
 fn edit_number(rng: &mut Rng, input: &mut Vec<u8>, edit: fn(&str, &mut Rng) -> String) {
-    let field = 1 + rng.index(2);
     let mut own = Rng::new(rng.next_u64(), 0);
     edit_lines(rng, input, |lines, at| {
         let mut fields: Vec<String> = lines[at].split(' ').map(str::to_string).collect();
-        if field < fields.len() {
+        if fields.len() > 1 {
+            let field = 1 + own.index(fields.len() - 1);
             fields[field] = edit(&fields[field], &mut own);
         }
         lines[at] = fields.join(" ");

@@ -211,9 +211,14 @@ fn token_soup(rng: &mut Rng) -> Vec<u8> {
     }
     for _ in 0..rng.range(0, 40) {
         if in_lines && rng.chance(97) {
-            let word = rng.pick(&WORDS[1..5]);
+            let word = *rng.pick(&WORDS[1..5]);
             let (first, second) = (rng.pick(&NUMBERS[..6]), rng.pick(&NUMBERS[1..7]));
-            text.push_str(&format!("{word} {first} {second}\n"));
+            text.push_str(&format!("{word} {first} {second}"));
+            // Now and then an add has no length, or another line has one.
+            if (word == "add") != rng.chance(2) {
+                text.push_str(&format!(" {}", rng.pick(&NUMBERS[..11])));
+            }
+            text.push('\n');
         } else {
             let (word, number) = (*rng.pick(&WORDS), *rng.pick(&NUMBERS));
             let tokens = [word, number, " ", "\n"];

@@ -14,6 +14,7 @@ pub mod run;
 pub mod scenes;
 pub mod script;
 pub mod selftest;
+pub mod selftest_lengths;
 pub mod selftest_plain;
 pub mod selftest_refusals;
 pub mod selftest_waits;

@@ -1,4 +1,4 @@
-//! Inputs at each limit of document 01, on either side of it.
+//! Inputs at each limit of the documents, on either side of it.
 
 use crate::arena::*;
 use crate::bench::{MAX_BYTES, MAX_ENTRIES, MAX_RECORDS};
@@ -21,6 +21,10 @@ const fn case(name: &'static str, expects: &'static str, make: fn(&mut Rng) -> V
     }
 }
 
+// The outputs of `one_start`.
+const NONE_REFUSED: &str = "entries 14 refused 0 ";
+const ONE_REFUSED: &str = "entries 14 refused 1 ";
+
 pub const CASES: &[Case] = &[
     case("empty input", "bad line 1\n", |_| Vec::new()),
     case("one LF", "bad line 1\n", |_| text("\n")),
@@ -28,7 +32,7 @@ pub const CASES: &[Case] = &[
     case("line 1 without LF", "bad line 1\n", |_| text("board 2 3")),
     case("half of line 1", "bad line 1\n", |_| text("board 2")),
     case("no line 1", "bad line 1\n", |_| {
-        text("add 0 5\nturn 0 14\n")
+        text("add 0 5 1\nturn 0 14\n")
     }),
     case("N 2", "bad line 1\n", |rng| board(rng, "board 1 2")),
     case("N 3", "entries ", |rng| board(rng, "board 1 3")),
@@ -43,23 +47,57 @@ pub const CASES: &[Case] = &[
         board(rng, "board 65535 65535")
     }),
     case("W 65537", "bad line 1\n", |rng| board(rng, "board 65537 5")),
-    case("key 0", "entries 14 refused 1 ", |_| one_add("0 0")),
-    case("key 1", "entries 14 refused 0 ", |_| one_add("0 1")),
-    case("key 65534", "entries 14 refused 0 ", |_| one_add("0 65534")),
-    case("key 65535", "entries 14 refused 1 ", |_| one_add("0 65535")),
-    case("key 65536", "bad line 3\n", |_| one_add("0 65536")),
-    case("worker 1 of 2", "entries 14 refused 0 ", |_| one_add("1 5")),
-    case("worker 2 of 2", "entries 14 refused 1 ", |_| one_add("2 5")),
-    case("worker 65535", "entries 14 refused 1 ", |_| {
-        one_add("65535 5")
+    case("key 0", ONE_REFUSED, |_| one_start("add 0 0 1")),
+    case("key 1", NONE_REFUSED, |_| one_start("add 0 1 1")),
+    case("key 65534", NONE_REFUSED, |_| one_start("add 0 65534 1")),
+    case("key 65535", ONE_REFUSED, |_| one_start("add 0 65535 1")),
+    case("key 65536", "bad line 3\n", |_| one_start("add 0 65536 1")),
+    case("worker 1 of 2", NONE_REFUSED, |_| one_start("add 1 5 1")),
+    case("worker 2 of 2", ONE_REFUSED, |_| one_start("add 2 5 1")),
+    case("worker 65535", ONE_REFUSED, |_| one_start("add 65535 5 1")),
+    case("worker 65536", "bad line 3\n", |_| {
+        one_start("add 65536 5 1")
     }),
-    case("worker 65536", "bad line 3\n", |_| one_add("65536 5")),
-    case("turn 0 times", "bad line 3\n", |_| {
-        text("board 2 3\nadd 0 5\nturn 0 0\n")
+    case("length 0", ONE_REFUSED, |_| one_start("add 0 5 0")),
+    case("length 1", NONE_REFUSED, |_| one_start("add 0 5 1")),
+    case("length 65534", NONE_REFUSED, |_| one_start("add 0 1 65534")),
+    case("length 65535", ONE_REFUSED, |_| one_start("add 0 1 65535")),
+    case("length 65536", "bad line 3\n", |_| {
+        one_start("add 0 1 65536")
     }),
-    case("turn once", "entries 2 ", |_| {
-        text("board 2 3\nadd 0 5\nturn 0 1\n")
+    case("end 65535", NONE_REFUSED, |_| one_start("add 0 65530 5")),
+    case("end 65536", ONE_REFUSED, |_| one_start("add 0 65530 6")),
+    case("end 65536 by the key", ONE_REFUSED, |_| {
+        one_start("add 0 65534 2")
     }),
+    case("end far behind", ONE_REFUSED, |_| {
+        one_start("add 0 65534 65535")
+    }),
+    case("length 01", "bad line 3\n", |_| one_start("add 0 5 01")),
+    case("length -1", "bad line 3\n", |_| one_start("add 0 5 -1")),
+    case("no length", "bad line 3\n", |_| one_start("add 0 5")),
+    case("empty length", "bad line 3\n", |_| one_start("add 0 5 ")),
+    case("two lengths", "bad line 3\n", |_| one_start("add 0 5 1 1")),
+    case("add alone", "bad line 3\n", |_| one_start("add")),
+    case("remove", NONE_REFUSED, |_| one_start("remove 0 5")),
+    case("contains", NONE_REFUSED, |_| one_start("contains 0 5")),
+    case("remove, length 0", "bad line 3\n", |_| {
+        one_start("remove 0 5 0")
+    }),
+    case("remove, length 1", "bad line 3\n", |_| {
+        one_start("remove 0 5 1")
+    }),
+    case("contains, length 0", "bad line 3\n", |_| {
+        one_start("contains 0 5 0")
+    }),
+    case("turn, length 0", "bad line 3\n", |_| {
+        one_start("turn 0 1 0")
+    }),
+    case("board, length 0", "bad line 1\n", |rng| {
+        board(rng, "board 2 3 0")
+    }),
+    case("turn 0 times", "bad line 3\n", |_| one_start("turn 0 0")),
+    case("turn once", NONE_REFUSED, |_| one_start("turn 0 1")),
     case("turn 4000 times", "entries 4000 ", |_| {
         text("board 2 3\nturn 0 4000\n")
     }),
@@ -67,10 +105,10 @@ pub const CASES: &[Case] = &[
         text("board 2 3\nturn 0 4001\n")
     }),
     case("a start past 4000", "bad line 3\n", |_| {
-        text("board 2 3\nturn 0 4000\nadd 0 5\nodd line\n")
+        text("board 2 3\nturn 0 4000\nadd 0 5 1\nodd line\n")
     }),
     case("turn past 4000", "bad line 3\n", |_| {
-        text("board 2 3\nadd 0 5\nturn 0 4000\n")
+        text("board 2 3\nadd 0 5 1\nturn 0 4000\n")
     }),
     case("4000 entries", "entries 4000 ", |rng| {
         entries(rng, MAX_ENTRIES)
@@ -113,11 +151,11 @@ pub const CASES: &[Case] = &[
         starts(rng, MAX_RECORDS + 1)
     }),
     case("1001 starts, all refused", "refused 8\n", |_| {
-        text(&("board 2 3\n".to_string() + &"add 2 5\n".repeat(1_001)))
+        text(&("board 2 3\n".to_string() + &"add 2 5 1\n".repeat(1_001)))
     }),
     case("1001 starts and a bad line", "bad line ", |rng| {
         let mut input = starts(rng, MAX_RECORDS + 1);
-        input.extend_from_slice(b"add 0\n");
+        input.extend_from_slice(b"add 0 5\n");
         input
     }),
 ];
@@ -133,10 +171,9 @@ fn board(rng: &mut Rng, first_line: &str) -> Vec<u8> {
     text(&(first_line.to_string() + &script.text[rest..]))
 }
 
-fn one_add(worker_and_key: &str) -> Vec<u8> {
-    text(&format!(
-        "board 2 4\nturn 0 1\nadd {worker_and_key}\nturn 0 12\n"
-    ))
+/// Line 3 is given; it is one entry, and there are 13 others.
+fn one_start(line: &str) -> Vec<u8> {
+    text(&format!("board 2 4\nturn 0 1\n{line}\nturn 0 12\n"))
 }
 
 fn busy_style() -> Style {

@@ -1,8 +1,9 @@
 //! A search for some order that explains a history, knowing nothing of points; and the limits that
 //! points and reported answers must keep to.
 
-use std::collections::{BTreeSet, HashSet};
+use std::collections::HashSet;
 
+use crate::arena::Label;
 use crate::run::Call;
 use crate::sequential::SequentialSet;
 use crate::turn::Answer;
@@ -48,13 +49,13 @@ pub fn decided_calls(calls: &[Call]) -> Vec<Call> {
 
 /// Some(true) if some order of the decided calls explains every answer and the last set and keeps
 /// real time; None if there are too many calls to search.
-pub fn explained(calls: &[Call], last_set: &[u16]) -> Option<bool> {
+pub fn explained(calls: &[Call], last_set: &[Label]) -> Option<bool> {
     let decided = decided_calls(calls);
     if decided.len() > MAX_SEARCHED {
         return None;
     }
     let mut search = Search {
-        last_set: last_set.iter().copied().collect(),
+        last_set: last_set.to_vec(),
         dead_ends: HashSet::new(),
         calls: decided,
     };
@@ -68,18 +69,18 @@ fn precedes(a: &Call, b: &Call) -> bool {
 
 struct Search {
     calls: Vec<Call>,
-    last_set: BTreeSet<u16>,
+    last_set: Vec<Label>,
     /// Calls already ordered (a bit each) and the set reached, from where there is no way on.
-    dead_ends: HashSet<(u32, Vec<u16>)>,
+    dead_ends: HashSet<(u32, Vec<Label>)>,
 }
 
 impl Search {
     fn can_go_on(&mut self, ordered: u32, state: &SequentialSet) -> bool {
-        let keys = state.keys();
+        let labels = state.labels();
         if ordered.count_ones() as usize == self.calls.len() {
-            return keys.iter().copied().eq(self.last_set.iter().copied());
+            return labels == self.last_set;
         }
-        if self.dead_ends.contains(&(ordered, keys.clone())) {
+        if self.dead_ends.contains(&(ordered, labels.clone())) {
             return false;
         }
         for next in 0..self.calls.len() {
@@ -89,12 +90,12 @@ impl Search {
             let call = self.calls[next];
             let mut after = state.clone();
             let told_full = call.answer == Answer::Full.number();
-            let answer = after.call(call.operation, call.key, told_full);
+            let answer = after.call(call.operation, call.label(), told_full);
             if answer.number() == call.answer && self.can_go_on(ordered | 1 << next, &after) {
                 return true;
             }
         }
-        self.dead_ends.insert((ordered, keys));
+        self.dead_ends.insert((ordered, labels));
         false
     }
 

@@ -3,11 +3,9 @@
 //! test holds it against the traced run.
 
 use crate::arena::*;
-use crate::run::{Totals, MAX_SCHEDULE_WORDS};
+use crate::run::{Totals, ENTRY_WORDS, MAX_SCHEDULE_WORDS};
 use crate::turn::{turn, Answer, Report};
 
-/// Words of an entry: worker, act, key.
-pub const ENTRY_WORDS: usize = 3;
 /// Words of a call in the history: worker, operation, key, start, point, finish, answer.
 pub const CALL_WORDS: usize = 7;
 /// Words of a wait: the call's number, time, node, the worker in the way.
@@ -18,7 +16,7 @@ const POINT: usize = 4;
 const FINISH: usize = 5;
 const CALL_ANSWER: usize = 6;
 
-/// Runs a schedule on an arena that it inits itself; history and waits are in flat words, and words
+/// Runs a schedule on an arena of layout 2 that it inits itself; history and waits are in flat words, and words
 /// past their records stay. Refusals 10, 9, 1, 8.
 pub fn run(
     arena: &mut [u16],
@@ -28,7 +26,7 @@ pub fn run(
     history: &mut [u16],
     waits: &mut [u16],
 ) -> Result<Totals, u16> {
-    let shape = Shape::new(workers, nodes).ok_or(BAD_COUNTS)?;
+    let shape = Shape::new(LAYOUT_2, workers, nodes).ok_or(BAD_COUNTS)?;
     if !schedule.len().is_multiple_of(ENTRY_WORDS) || schedule.len() > MAX_SCHEDULE_WORDS {
         return Err(BAD_SCHEDULE);
     }
@@ -39,7 +37,7 @@ pub fn run(
     if starts > history.len() / CALL_WORDS || turns > waits.len() / WAIT_WORDS {
         return Err(NO_ROOM);
     }
-    init(arena, workers, nodes)?;
+    init(arena, LAYOUT_2, workers, nodes)?;
     let mut run = Run {
         arena,
         shape,
@@ -49,7 +47,7 @@ pub fn run(
         open: [OpenCall::default(); MAX_WORKERS as usize],
     };
     for entry in schedule.chunks_exact(ENTRY_WORDS) {
-        run.entry(entry[0], entry[1], entry[2]);
+        run.entry(entry);
     }
     Ok(run.totals)
 }
@@ -94,12 +92,13 @@ struct Run<'a> {
 }
 
 impl Run<'_> {
-    fn entry(&mut self, worker: u16, act: u16, key: u16) {
+    fn entry(&mut self, entry: &[u16]) {
+        let (worker, act) = (entry[0], entry[1]);
         self.totals.entries += 1;
         let done = if act == 0 {
             self.turn_entry(worker)
         } else {
-            self.start_entry(worker, act, key)
+            self.start_entry(worker, act, entry[2], entry[3])
         };
         if done.is_err() {
             self.totals.refused += 1;
@@ -111,8 +110,14 @@ impl Run<'_> {
         self.totals.entries
     }
 
-    fn start_entry(&mut self, worker: u16, operation: u16, key: u16) -> Result<(), u16> {
-        start(self.arena, worker, operation, key)?;
+    fn start_entry(
+        &mut self,
+        worker: u16,
+        operation: u16,
+        key: u16,
+        length: u16,
+    ) -> Result<(), u16> {
+        start(self.arena, worker, operation, key, length)?;
         let time = self.time();
         let misses = operation == CONTAINS && !self.is_present(key);
         let call = OpenCall {

@@ -3,14 +3,18 @@
 use crate::arena::*;
 use crate::turn::{turn, Answer, Report};
 
-pub const MAX_SCHEDULE_WORDS: usize = 12_000;
+/// Words of an entry: worker, act, key, length.
+pub const ENTRY_WORDS: usize = 4;
+pub const MAX_SCHEDULE_WORDS: usize = 16_000;
 
-/// One call record of the history; 0 where a point, finish or answer is not reached.
+/// One call record of the history; 0 where a point, finish or answer is not reached. The length is
+/// no part of the record: it is kept for the sequential set.
 #[derive(Clone, Copy, Debug, Default, PartialEq, Eq)]
 pub struct Call {
     pub worker: u16,
     pub operation: u16,
     pub key: u16,
+    pub length: u16,
     pub start: u16,
     pub point: u16,
     pub finish: u16,
@@ -21,6 +25,14 @@ impl Call {
     /// Contains calls with this answer have their point fixed by looking back.
     pub fn is_contains_no(&self) -> bool {
         self.operation == CONTAINS && self.answer == Answer::No.number()
+    }
+
+    /// What the sequential set is fed besides the operation.
+    pub fn label(&self) -> Label {
+        Label {
+            key: self.key,
+            length: self.length,
+        }
     }
 }
 
@@ -52,7 +64,7 @@ impl Room {
     /// Whether a schedule fits: a record for each entry with act 1 to 3 and one for each turn,
     /// refused or not.
     pub fn is_enough(self, schedule: &[u16]) -> bool {
-        let acts = || schedule.chunks(3).map(|entry| entry[1]);
+        let acts = || schedule.chunks(ENTRY_WORDS).map(|entry| entry[1]);
         let starts = acts().filter(|act| (ADD..=CONTAINS).contains(act)).count();
         let turns = acts().filter(|&act| act == 0).count();
         starts <= self.calls && turns <= self.waits
@@ -82,9 +94,11 @@ pub struct Trace {
     /// Per call the answer that its worker reported at its finish, or 0.
     pub told: Vec<u16>,
     /// The set at every time (document 01: moment); time 0 is the fresh arena.
-    pub sets: Vec<Vec<u16>>,
+    pub sets: Vec<Vec<Label>>,
     /// Refused entries by refusal number.
     pub refusals: [u32; 11],
+    /// Starts refused for their length alone.
+    pub refused_lengths: u32,
     /// Turns at stage 11.
     pub retries: u32,
     /// Nodes taken again by an add after an earlier add had taken them.
@@ -94,7 +108,7 @@ pub struct Trace {
     taken_nodes: Vec<u16>,
 }
 
-/// Runs a schedule on an arena that it inits itself. Refusals 10, 9, 1, 8.
+/// Runs a schedule on an arena of layout 2 that it inits itself. Refusals 10, 9, 1, 8.
 pub fn run_traced(
     arena: &mut [u16],
     workers: u16,
@@ -102,8 +116,8 @@ pub fn run_traced(
     schedule: &[u16],
     room: Room,
 ) -> Result<Trace, u16> {
-    let shape = Shape::new(workers, nodes).ok_or(BAD_COUNTS)?;
-    if !schedule.len().is_multiple_of(3) || schedule.len() > MAX_SCHEDULE_WORDS {
+    let shape = Shape::new(LAYOUT_2, workers, nodes).ok_or(BAD_COUNTS)?;
+    if !schedule.len().is_multiple_of(ENTRY_WORDS) || schedule.len() > MAX_SCHEDULE_WORDS {
         return Err(BAD_SCHEDULE);
     }
     if arena.len() < shape.total() {
@@ -112,26 +126,32 @@ pub fn run_traced(
     if !room.is_enough(schedule) {
         return Err(NO_ROOM);
     }
-    init(arena, workers, nodes)?;
+    init(arena, LAYOUT_2, workers, nodes)?;
+    Ok(trace_entries(arena, shape, schedule))
+}
+
+/// Makes the entries of a schedule on a fresh arena of either layout.
+pub fn trace_entries(arena: &mut [u16], shape: Shape, schedule: &[u16]) -> Trace {
     let mut trace = Trace {
         shape,
         ..Trace::default()
     };
     trace.sets.push(set(arena));
-    for entry in schedule.chunks(3) {
-        trace.entry(arena, entry[0], entry[1], entry[2]);
+    for entry in schedule.chunks(ENTRY_WORDS) {
+        trace.entry(arena, entry);
     }
-    Ok(trace)
+    trace
 }
 
 impl Trace {
-    fn entry(&mut self, arena: &mut [u16], worker: u16, act: u16, key: u16) {
+    fn entry(&mut self, arena: &mut [u16], entry: &[u16]) {
+        let (worker, act) = (entry[0], entry[1]);
         self.totals.entries += 1;
         self.entry_workers.push(worker);
         let done = if act == 0 {
             self.turn_entry(arena, worker)
         } else {
-            self.start_entry(arena, worker, act, key)
+            self.start_entry(arena, worker, act, entry[2], entry[3])
         };
         if let Err(number) = done {
             self.totals.refused += 1;
@@ -151,8 +171,14 @@ impl Trace {
         worker: u16,
         operation: u16,
         key: u16,
+        length: u16,
     ) -> Result<(), u16> {
-        start(arena, worker, operation, key)?;
+        let started = start(arena, worker, operation, key, length);
+        let has_good_key = (ADD..=CONTAINS).contains(&operation) && is_call_key(key);
+        if started == Err(BAD_CALL) && has_good_key {
+            self.refused_lengths += 1;
+        }
+        started?;
         self.sets.push(set(arena));
         self.totals.calls += 1;
         self.current[worker as usize] = Some(self.calls.len());
@@ -160,6 +186,7 @@ impl Trace {
             worker,
             operation,
             key,
+            length,
             start: self.time(),
             ..Call::default()
         });
@@ -222,7 +249,7 @@ impl Trace {
     /// there is one; 0 otherwise, which the checks of the history would refuse.
     fn first_absent(&self, key: u16, start: u16, now: u16) -> u16 {
         (start..=now)
-            .find(|&time| !self.sets[time as usize].contains(&key))
+            .find(|&time| length_in(&self.sets[time as usize], key).is_none())
             .unwrap_or(0)
     }
 

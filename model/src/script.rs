@@ -17,9 +17,9 @@ pub struct Script {
 impl Script {
     /// For good counts only.
     pub fn new(workers: u16, nodes: u16) -> Script {
-        let shape = Shape { workers, nodes };
+        let shape = Shape::new(LAYOUT_2, workers, nodes).expect("good counts");
         let mut arena = vec![0; shape.total()];
-        init(&mut arena, workers, nodes).expect("good counts");
+        init(&mut arena, LAYOUT_2, workers, nodes).expect("words enough");
         Script {
             text: format!("board {workers} {nodes}\n"),
             entries: 0,
@@ -42,15 +42,31 @@ impl Script {
         MAX_ENTRIES.saturating_sub(self.entries)
     }
 
+    /// An add gets a length that a good key may have: short, since an input has few bytes, and
+    /// mostly another one than the add before.
     pub fn start(&mut self, worker: u16, operation: u16, key: u16) {
         let word = match operation {
-            ADD => "add",
+            ADD => {
+                let length = 1 + self.starts as u16 % 9;
+                return self.add(worker, key, length.min(TAIL_KEY - key));
+            }
             REMOVE => "remove",
             _ => "contains",
         };
         self.text.push_str(&format!("{word} {worker} {key}\n"));
+        self.play_start(worker, operation, key, 0);
+    }
+
+    /// An add of any length.
+    pub fn add(&mut self, worker: u16, key: u16, length: u16) {
+        self.text
+            .push_str(&format!("add {worker} {key} {length}\n"));
+        self.play_start(worker, ADD, key, length);
+    }
+
+    fn play_start(&mut self, worker: u16, operation: u16, key: u16, length: u16) {
         // A refused start is wanted in the input too.
-        let _ = start(&mut self.arena, worker, operation, key);
+        let _ = start(&mut self.arena, worker, operation, key, length);
         self.entries += 1;
         self.starts += 1;
     }
@@ -133,18 +149,21 @@ impl Style {
         }
     }
 
-    /// An entry with a bad worker, a bad key or (most likely) a busy worker.
+    /// An entry with a bad worker, a bad key, a length at its limits or (most likely) a busy worker.
     fn odd_line(&self, rng: &mut Rng, script: &mut Script) {
         let workers = script.shape.workers;
         let worker = rng.word(0, workers - 1);
         let outside = *rng.pick(&[workers, workers + 1, 8, 65_535]);
         let operation = rng.word(ADD, CONTAINS);
         let key = rng.word(1, self.keys);
-        match rng.range(0, 5) {
+        let last_length = TAIL_KEY - key;
+        let length = *rng.pick(&[0, last_length, last_length + 1, 65_535]);
+        match rng.range(0, 6) {
             0 => script.start(outside, operation, key),
             1 => script.turns_that_fit(outside, 1),
             2 => script.start(worker, operation, 0),
             3 => script.start(worker, operation, 65_535),
+            4 => script.add(worker, key, length),
             _ => script.start(worker, operation, key),
         }
     }

@@ -7,6 +7,7 @@ use crate::limits::CASES;
 use crate::linearizable::{check_times, check_told, explained};
 use crate::rng::Rng;
 use crate::run::Call;
+use crate::selftest_lengths;
 use crate::selftest_plain;
 use crate::selftest_refusals;
 use crate::selftest_waits;
@@ -31,19 +32,19 @@ impl Checks {
     }
 }
 
-/// The bench listing of document 01.
+/// The bench listing of document 01, where every add has got length 1.
 const LISTING_INPUT: &str = "\
 board 2 3
-add 0 5
+add 0 5 1
 turn 0 14
 contains 1 5
 turn 1 4
 remove 0 5
 turn 0 15
-add 0 7
+add 0 7 1
 turn 0 13
 turn 1 2
-add 0 7
+add 0 7 1
 turn 0 14
 ";
 const LISTING_OUTPUT: &str = "\
@@ -57,16 +58,16 @@ roll 7
 ";
 
 /// A look-up of 5 that stands on the removed node while 5 comes back: its no belongs to the time
-/// between.
+/// between. It comes back with another length.
 const OVERTAKEN_INPUT: &str = "\
 board 2 4
-add 0 5
+add 0 5 3
 turn 0 14
 contains 1 5
 turn 1 4
 remove 0 5
 turn 0 15
-add 0 5
+add 0 5 8
 turn 0 14
 turn 1 2
 ";
@@ -80,7 +81,7 @@ roll 5
 ";
 
 /// The turn at 16 has been made and the turn at 18 has not: 5 is on the chain still, but marked.
-const MARKED_INPUT: &str = "board 1 3\nadd 0 5\nturn 0 14\nremove 0 5\nturn 0 10\n";
+const MARKED_INPUT: &str = "board 1 3\nadd 0 5 1\nturn 0 14\nremove 0 5\nturn 0 10\n";
 const MARKED_OUTPUT: &str = "\
 entries 26 refused 0 waits 0 calls 2
 0 add 5 1 12 15 yes
@@ -103,51 +104,67 @@ pub fn selftest() -> Checks {
         checks.check(case.name, output.starts_with(case.expects.as_bytes()));
     }
     small_arenas(&mut checks);
-    second_add_waits(&mut checks);
-    turns_of_calls(&mut checks);
+    for layout in LAYOUTS {
+        second_add_waits(&mut checks, layout);
+        turns_of_calls(&mut checks, layout);
+    }
     right_histories(&mut checks);
     wrong_histories(&mut checks);
     told_answers(&mut checks);
     selftest_refusals::refusals(&mut checks);
     selftest_waits::waits(&mut checks);
+    selftest_lengths::lengths(&mut checks);
     selftest_words::any_words(&mut checks);
     selftest_plain::plain_runs(&mut checks);
     checks
 }
 
-pub fn fresh(workers: u16, nodes: u16) -> Vec<u16> {
-    let mut arena = vec![0; Shape { workers, nodes }.total()];
-    init(&mut arena, workers, nodes).expect("good counts");
+pub fn fresh(shape: Shape) -> Vec<u16> {
+    let mut arena = vec![0; shape.total()];
+    init(&mut arena, shape.layout, shape.workers, shape.nodes).expect("a good shape");
     arena
+}
+
+/// A start with a length that it may carry.
+pub fn good_start(arena: &mut [u16], worker: u16, operation: u16, key: u16) -> Result<(), u16> {
+    let has_length = arena[0] == LAYOUT_2 && operation == ADD;
+    start(arena, worker, operation, key, u16::from(has_length))
 }
 
 /// The cases of "Small boards" that are not about numbers of turns.
 fn small_arenas(checks: &mut Checks) {
     let mut arena = vec![9; 30];
-    checks.check("W 1, N 3", init(&mut arena, 1, 3).is_ok());
+    checks.check("W 1, N 3", init(&mut arena, 1, 1, 3).is_ok());
     checks.check("W 1, N 3 header", arena[..8] == [1, 1, 3, 8, 16, 28, 0, 0]);
     checks.check("idle worker", arena[8..16] == IDLE_WORKER);
     let nodes = [0, 1, 0, 0, 65_535, 1, 0, 0, 0, 0, 0, 0];
     checks.check("fresh nodes", arena[16..28] == nodes);
     checks.check("past the total", arena[28..] == [9, 9]);
-    checks.check("27 words", init(&mut [0; 27], 1, 3) == Err(1));
-    checks.check("N 2", init(&mut [0; 28], 1, 2) == Err(10));
-    checks.check("W 9", init(&mut [0; 5_000], 9, 3) == Err(10));
-    checks.check("N 1024", init(&mut [0; 5_000], 1, 1_024).is_ok());
-    checks.check("N 1025", init(&mut [0; 5_000], 1, 1_025) == Err(10));
-    let mut arena = fresh(2, 3);
-    checks.check("key 0", start(&mut arena, 0, ADD, 0) == Err(5));
-    checks.check("key 65535", start(&mut arena, 0, ADD, 65_535) == Err(5));
-    checks.check("idle turn", turn(&mut arena, 0) == Ok(Report::Idle));
-    checks.check("key 65534", start(&mut arena, 0, ADD, 65_534) == Ok(()));
-    checks.check("busy, key 0", start(&mut arena, 0, ADD, 0) == Err(4));
+    checks.check("27 words", init(&mut [0; 27], 1, 1, 3) == Err(1));
+    for layout in LAYOUTS {
+        checks.check("N 2", init(&mut [0; 31], layout, 1, 2) == Err(10));
+        checks.check("W 9", init(&mut [0; 9_000], layout, 9, 3) == Err(10));
+        checks.check("N 1024", init(&mut [0; 9_000], layout, 1, 1_024).is_ok());
+        checks.check("N 1025", init(&mut [0; 9_000], layout, 1, 1_025) == Err(10));
+        let mut arena = fresh(shape(layout, 2, 3));
+        checks.check("idle turn", turn(&mut arena, 0) == Ok(Report::Idle));
+        let mut add = |key| good_start(&mut arena, 0, ADD, key);
+        checks.check("key 0", add(0) == Err(5));
+        checks.check("key 65535", add(65_535) == Err(5));
+        checks.check("key 65534", add(65_534) == Ok(()));
+        checks.check("busy, key 0", add(0) == Err(4));
+    }
+}
+
+fn shape(layout: u16, workers: u16, nodes: u16) -> Shape {
+    Shape::new(layout, workers, nodes).expect("a good shape")
 }
 
 /// Two adds on an empty set meet at Head.
-fn second_add_waits(checks: &mut Checks) {
-    let mut arena = fresh(2, 3);
-    let started = start(&mut arena, 0, ADD, 5).is_ok() && start(&mut arena, 1, ADD, 5).is_ok();
-    checks.check("two adds", started);
+fn second_add_waits(checks: &mut Checks, layout: u16) {
+    let mut arena = fresh(shape(layout, 2, 3));
+    let started = [0, 1].map(|worker| good_start(&mut arena, worker, ADD, 5));
+    checks.check("two adds", started == [Ok(()); 2]);
     let last = (0..4).map(|_| turn(&mut arena, 0)).last();
     checks.check("worker 0 at 7", last == Some(Ok(Report::Moved(7))));
     let reports: Vec<_> = (0..4).map(|_| turn(&mut arena, 1)).collect();
@@ -166,7 +183,7 @@ fn second_add_waits(checks: &mut Checks) {
 /// How many turns a call alone takes, with its answer.
 fn turns_alone(arena: &mut [u16], operation: u16, key: u16) -> (u32, Option<Answer>) {
     let mut count = 0;
-    if start(arena, 0, operation, key).is_ok() {
+    if good_start(arena, 0, operation, key).is_ok() {
         while count < 1_000 {
             count += 1;
             match turn(arena, 0) {
@@ -179,8 +196,8 @@ fn turns_alone(arena: &mut [u16], operation: u16, key: u16) -> (u32, Option<Answ
     (count, None)
 }
 
-fn turns_of_calls(checks: &mut Checks) {
-    let mut arena = fresh(1, 3);
+fn turns_of_calls(checks: &mut Checks, layout: u16) {
+    let mut arena = fresh(shape(layout, 1, 3));
     let mut expect = |name, operation, key, count, answer| {
         let turns = turns_alone(&mut arena, operation, key);
         checks.check(name, turns == (count, Some(answer)));
@@ -196,7 +213,7 @@ fn turns_of_calls(checks: &mut Checks) {
 }
 
 /// The history and the last set of an input that runs.
-fn history(input: &str) -> (Vec<Call>, Vec<u16>) {
+pub fn history(input: &str) -> (Vec<Call>, Vec<Label>) {
     match evaluate(input.as_bytes()) {
         Outcome::Ran(trace, _) => {
             let last_set = trace.sets.last().cloned().unwrap_or_default();
@@ -214,7 +231,8 @@ fn right_histories(checks: &mut Checks) {
         checks.check("times", check_times(&calls).is_ok());
         checks.check("points", sequential::check(&calls, &set).is_ok());
         checks.check("some order", explained(&calls, &set) == Some(true));
-        for wrong_set in [vec![], vec![5, 7], vec![9]] {
+        for keys in [&[][..], &[5, 7], &[9]] {
+            let wrong_set: Vec<_> = keys.iter().map(|&key| Label { key, length: 1 }).collect();
             let refused = sequential::check(&calls, &wrong_set).is_err();
             let none = wrong_set == set || explained(&calls, &wrong_set) == Some(false);
             checks.check("wrong last set", (refused || wrong_set == set) && none);

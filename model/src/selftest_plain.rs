@@ -4,9 +4,9 @@ use std::ops::RangeInclusive;
 
 use crate::arena::*;
 use crate::plain;
-use crate::plain::{CALL_WORDS, ENTRY_WORDS, WAIT_WORDS};
+use crate::plain::{CALL_WORDS, WAIT_WORDS};
 use crate::rng::Rng;
-use crate::run::{run_traced, Call, Room, Trace, MAX_SCHEDULE_WORDS};
+use crate::run::{run_traced, Call, Room, Trace, ENTRY_WORDS, MAX_SCHEDULE_WORDS};
 use crate::selftest::Checks;
 
 const INPUTS: u64 = 500;
@@ -52,9 +52,11 @@ fn random_schedule(rng: &mut Rng, workers: u16) -> Vec<u16> {
             schedule.push(worker);
             schedule.push(mostly(rng, operation, &[4, 65_535]));
             schedule.push(mostly(rng, key, &[0, 65_534, 65_535]));
+            let length = if operation == ADD { rng.word(1, 9) } else { 0 };
+            schedule.push(mostly(rng, length, &[0, 1, 65_535 - key, 65_535]));
         }
         for _ in 0..rng.word(1, if is_slow { 2 } else { 35 }) {
-            schedule.extend([worker, 0, rng.word(0, 65_535)]);
+            schedule.extend([worker, 0, rng.word(0, 65_535), rng.word(0, 65_535)]);
         }
     }
     schedule
@@ -71,13 +73,13 @@ fn random_input(rng: &mut Rng) -> Input {
     let waits_words = row_words(rng, &schedule, 0..=0, WAIT_WORDS);
     let missing_words = if rng.chance(3) { 4 } else { 0 };
     if rng.chance(3) {
-        schedule.push(0);
+        schedule.resize(schedule.len() + 1 + rng.index(3), 0);
     }
-    let total = Shape { workers, nodes }.total();
+    let shape = Shape::new(LAYOUT_2, workers, nodes).expect("a good shape");
     Input {
         workers: mostly(rng, workers, &[0, 9, 65_535]),
         nodes: mostly(rng, nodes, &[0, 2, 1_025, 65_535]),
-        arena_words: total + rng.index(4) - missing_words,
+        arena_words: shape.total() + rng.index(4) - missing_words,
         schedule,
         history_words,
         waits_words,
@@ -120,16 +122,18 @@ struct Met {
     /// Those of them whose key was back when they answered.
     overtaken_twice: u32,
     waits: usize,
+    refused_lengths: u32,
 }
 
 impl Met {
     fn note(&mut self, trace: &Trace) {
         self.waits += trace.waits.len();
+        self.refused_lengths += trace.refused_lengths;
         for (call, decided) in trace.calls.iter().zip(&trace.decided) {
             if call.is_contains_no() && call.point > call.start {
                 self.overtaken += 1;
                 let set = &trace.sets[*decided as usize];
-                self.overtaken_twice += u32::from(set.contains(&call.key));
+                self.overtaken_twice += u32::from(length_in(set, call.key).is_some());
             }
         }
     }
@@ -202,4 +206,5 @@ pub fn plain_runs(checks: &mut Checks) {
     checks.check("plain run meets overtaken look-ups", met.overtaken > 100);
     checks.check("and with the key back", met.overtaken_twice > 10);
     checks.check("plain run meets waits", met.waits > 10_000);
+    checks.check("plain run meets bad lengths", met.refused_lengths > 100);
 }

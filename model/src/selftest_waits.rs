@@ -5,7 +5,7 @@ use crate::arena::*;
 use crate::bench::{bench, evaluate, Outcome};
 use crate::run::{run_traced, Room, Trace};
 use crate::selftest::{fresh, Checks};
-use crate::selftest_refusals::{SHAPE, WORDS};
+use crate::selftest_refusals::SHAPES;
 use crate::turn::{turn, Report};
 use crate::waits::check_waits;
 
@@ -13,11 +13,11 @@ use crate::waits::check_waits;
 /// worker 2 has Head, finds that the chain has changed and gives it back, and worker 1 takes it.
 const BY_TURNS_INPUT: &str = "\
 board 3 4
-add 0 5
+add 0 5 2
 turn 0 4
 contains 1 5
 turn 1 5
-add 1 7
+add 1 7 65528
 turn 1 4
 remove 2 5
 turn 2 4
@@ -54,9 +54,9 @@ const BY_TURNS_ROW: [[u16; 4]; 5] = [
 /// Worker 0 is about to give back Tail when worker 1 wants it: a wait at stage 7.
 const AT_TAIL_INPUT: &str = "\
 board 2 3
-add 1 5
+add 1 5 1
 turn 1 3
-add 0 5
+add 0 5 2
 turn 0 12
 turn 1 3
 turn 0 2
@@ -80,7 +80,9 @@ pub fn waits(checks: &mut Checks) {
     }
     let row: Vec<_> = by_turns().waits.iter().map(|wait| wait.words()).collect();
     checks.check("waits by time", row == BY_TURNS_ROW);
-    any_owner(checks);
+    for (shape, _) in SHAPES {
+        any_owner(checks, shape);
+    }
     room_for_waits(checks);
     wrong_waits(checks);
 }
@@ -94,20 +96,20 @@ fn by_turns() -> Trace {
 
 /// On an arena of any words the worker is the owner word less 1: it may be one that is not there,
 /// or the waiting worker itself. The other node's owner is not looked at, and nothing changes.
-fn any_owner(checks: &mut Checks) {
+fn any_owner(checks: &mut Checks, shape: Shape) {
     let stages = [(6, PRED, CURR), (7, CURR, PRED)];
     let owners = [(1, 0), (2, 1), (3, 2), (9, 8), (65_535, 65_534)];
     for (stage, wanted, other) in stages {
         for (owner, worker) in owners {
-            for node in 0..SHAPE.nodes {
-                let mut arena = fresh(SHAPE.workers, SHAPE.nodes);
-                let at = SHAPE.worker_at(0);
-                let other_node = (node + 1) % SHAPE.nodes;
+            for node in 0..shape.nodes {
+                let mut arena = fresh(shape);
+                let at = shape.worker_at(0);
+                let other_node = (node + 1) % shape.nodes;
                 arena[at..at + 3].copy_from_slice(&[stage, REMOVE, 5]);
                 arena[at + wanted] = node;
                 arena[at + other] = other_node;
-                arena[SHAPE.node_at(node) + OWNER] = owner;
-                arena[SHAPE.node_at(other_node) + OWNER] = 7;
+                arena[shape.node_at(node) + OWNER] = owner;
+                arena[shape.node_at(other_node) + OWNER] = 7;
                 let before = arena.clone();
                 let report = turn(&mut arena, 0);
                 let name = format!("stage {stage} node {node} owner {owner}: {report:?}");
@@ -119,16 +121,18 @@ fn any_owner(checks: &mut Checks) {
 }
 
 /// Two starts and three turns, one of each refused, and two entries with an act above 3.
-const ROOM_SCHEDULE: [u16; 21] = [
-    0, 1, 5, 0, 0, 0, 9, 3, 5, 0, 4, 5, 9, 0, 0, 0, 65_535, 5, 0, 0, 0,
+const ROOM_SCHEDULE: [u16; 28] = [
+    0, 1, 5, 1, 0, 0, 0, 0, 9, 3, 5, 0, 0, 4, 5, 0, 9, 0, 0, 0, 0, 65_535, 5, 0, 0, 0, 0, 0,
 ];
 
 /// Refusal 8 by either row, at the limit and one below, and after 10, 9 and 1.
 fn room_for_waits(checks: &mut Checks) {
+    // A run lays layout 2.
+    let (shape, total) = SHAPES[1];
     let mut row = |due: Result<(), u16>, workers, schedule: &[u16], words, calls, waits| {
         let mut arena = vec![7; words];
         let room = Room { calls, waits };
-        let run = run_traced(&mut arena, workers, SHAPE.nodes, schedule, room).map(|_| ());
+        let run = run_traced(&mut arena, workers, shape.nodes, schedule, room).map(|_| ());
         let name = format!("room for {calls} calls and {waits} waits: {run:?}");
         let is_untouched = run.is_ok() || arena.iter().all(|&word| word == 7);
         checks.check(&name, run == due && is_untouched);
@@ -144,17 +148,17 @@ fn room_for_waits(checks: &mut Checks) {
         (Err(8), 1, 9),
         (Err(8), 1, 2),
     ] {
-        row(due, 2, good, WORDS, calls, waits);
+        row(due, 2, good, total, calls, waits);
     }
     // A fault less in each row.
-    row(Err(10), 9, &good[1..], WORDS - 1, 2, 2);
-    row(Err(9), 2, &good[1..], WORDS - 1, 2, 2);
-    row(Err(1), 2, good, WORDS - 1, 2, 2);
-    row(Err(8), 2, good, WORDS, 2, 2);
-    row(Ok(()), 2, &[0; 12_000], WORDS, 0, 4_000);
-    row(Err(8), 2, &[0; 12_000], WORDS, 0, 3_999);
-    row(Ok(()), 2, &[0, 4, 5], WORDS, 0, 0);
-    row(Ok(()), 2, &[], WORDS, 0, 0);
+    row(Err(10), 9, &good[1..], total - 1, 2, 2);
+    row(Err(9), 2, &good[1..], total - 1, 2, 2);
+    row(Err(1), 2, good, total - 1, 2, 2);
+    row(Err(8), 2, good, total, 2, 2);
+    row(Ok(()), 2, &[0; 16_000], total, 0, 4_000);
+    row(Err(8), 2, &[0; 16_000], total, 0, 3_999);
+    row(Ok(()), 2, &[0, 4, 5, 0], total, 0, 0);
+    row(Ok(()), 2, &[], total, 0, 0);
 }
 
 /// The waits of the run pass; with something wrong in them they don't.

@@ -3,39 +3,45 @@
 use crate::arena::*;
 use crate::rng::Rng;
 use crate::selftest::{fresh, Checks};
-use crate::selftest_refusals::{SHAPE, WORDS};
+use crate::selftest_refusals::SHAPES;
 use crate::turn::{find_free, turn, Report};
 
 /// What only Tail or a worker leads to is not free, whatever the worker does.
-fn free_nodes(checks: &mut Checks) {
-    let mut arena = fresh(SHAPE.workers, SHAPE.nodes);
-    checks.check("2 is free", find_free(&arena, SHAPE) == Some(2));
-    arena[SHAPE.node_at(TAIL) + NEXT] = 2;
-    arena[SHAPE.node_at(2) + NEXT] = 0;
-    checks.check("Tail leads to 2", find_free(&arena, SHAPE) == Some(3));
+fn free_nodes(checks: &mut Checks, shape: Shape) {
+    let mut arena = fresh(shape);
+    checks.check("2 is free", find_free(&arena, shape) == Some(2));
+    arena[shape.node_at(TAIL) + NEXT] = 2;
+    arena[shape.node_at(2) + NEXT] = 0;
+    checks.check("Tail leads to 2", find_free(&arena, shape) == Some(3));
     for word in [PRED, CURR, SPARE] {
         let mut held = arena.clone();
-        held[SHAPE.worker_at(1) + word] = 3;
-        checks.check("idle worker on 3", find_free(&held, SHAPE).is_none());
+        held[shape.worker_at(1) + word] = 3;
+        checks.check("idle worker on 3", find_free(&held, shape).is_none());
+    }
+}
+
+pub fn any_words(checks: &mut Checks) {
+    for (shape, total) in SHAPES {
+        free_nodes(checks, shape);
+        any_words_in(checks, shape, total);
     }
 }
 
 /// On words of any kind nothing panics, and refusals, waits and idle turns write nothing.
-pub fn any_words(checks: &mut Checks) {
-    free_nodes(checks);
+fn any_words_in(checks: &mut Checks, shape: Shape, total: usize) {
     let mut rng = Rng::new(7, 7);
     let mut unharmed = true;
     let mut accepted = 0;
     for _ in 0..4_000 {
         let words = if rng.chance(30) {
-            rng.index(WORDS)
+            rng.index(total)
         } else {
-            WORDS + rng.index(4)
+            total + rng.index(4)
         };
         let highest = *rng.pick(&[1, 5, 30, 65_535]);
         let mut arena: Vec<u16> = (0..words).map(|_| rng.word(0, highest)).collect();
-        if words >= WORDS {
-            arena[..HEADER_WORDS].copy_from_slice(&SHAPE.header());
+        if words >= total {
+            arena[..HEADER_WORDS].copy_from_slice(&shape.header());
         }
         let before = arena.clone();
         let worker = rng.word(0, 2);
@@ -45,9 +51,9 @@ pub fn any_words(checks: &mut Checks) {
         } else {
             accepted += 1;
         }
-        unharmed &= words < WORDS || arena[WORDS..] == before[WORDS..];
+        unharmed &= words < total || arena[total..] == before[total..];
         let before = arena.clone();
-        if start(&mut arena, worker, rng.word(0, 4), 5).is_err() {
+        if start(&mut arena, worker, rng.word(0, 4), 5, rng.word(0, 1)).is_err() {
             unharmed &= arena == before;
         }
         let mut out = [3; 2];

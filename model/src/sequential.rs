@@ -1,39 +1,42 @@
 //! The sequential set (document 01: the plain set), fed a history in the order of its points.
 
-use std::collections::BTreeSet;
+use std::collections::BTreeMap;
 
-use crate::arena::{ADD, CONTAINS};
+use crate::arena::{Label, ADD, CONTAINS};
 use crate::run::Call;
 use crate::turn::Answer;
 
-/// A set of keys without nodes, workers or room of its own.
+/// A set of keys without nodes, workers or room of its own. It remembers with each key the length
+/// of the add that put it there.
 #[derive(Clone, Debug, Default)]
 pub struct SequentialSet {
-    keys: BTreeSet<u16>,
+    lengths: BTreeMap<u16, u16>,
 }
 
 impl SequentialSet {
     /// Makes one whole call; `told_full` says whether an add found no room.
-    pub fn call(&mut self, operation: u16, key: u16, told_full: bool) -> Answer {
-        let present = self.keys.contains(&key);
+    pub fn call(&mut self, operation: u16, label: Label, told_full: bool) -> Answer {
+        let present = self.lengths.contains_key(&label.key);
         match (operation, present) {
             (ADD, true) => Answer::No,
             (ADD, false) if told_full => Answer::Full,
             (ADD, false) => {
-                self.keys.insert(key);
+                self.lengths.insert(label.key, label.length);
                 Answer::Yes
             }
             (CONTAINS, true) => Answer::Yes,
             (_, false) => Answer::No,
             (_, true) => {
-                self.keys.remove(&key);
+                self.lengths.remove(&label.key);
                 Answer::Yes
             }
         }
     }
 
-    pub fn keys(&self) -> Vec<u16> {
-        self.keys.iter().copied().collect()
+    /// By rising keys.
+    pub fn labels(&self) -> Vec<Label> {
+        let label = |(&key, &length)| Label { key, length };
+        self.lengths.iter().map(label).collect()
     }
 }
 
@@ -50,7 +53,7 @@ pub fn in_feeding_order(calls: &[Call]) -> Vec<Call> {
 }
 
 /// Compares every answer and the last set with those of the sequential set.
-pub fn check(calls: &[Call], last_set: &[u16]) -> Result<(), String> {
+pub fn check(calls: &[Call], last_set: &[Label]) -> Result<(), String> {
     let mut state = SequentialSet::default();
     let mut last_turn = 0;
     for call in in_feeding_order(calls) {
@@ -64,14 +67,14 @@ pub fn check(calls: &[Call], last_set: &[u16]) -> Result<(), String> {
             last_turn = call.point;
         }
         let told_full = call.operation == ADD && call.answer == Answer::Full.number();
-        let answer = state.call(call.operation, call.key, told_full);
+        let answer = state.call(call.operation, call.label(), told_full);
         if answer.number() != call.answer {
             return Err(format!("the sequential set answers {answer:?} to {call:?}"));
         }
     }
-    let keys = state.keys();
-    if keys != last_set {
-        return Err(format!("sequential set {keys:?}, arena {last_set:?}"));
+    let labels = state.labels();
+    if labels != last_set {
+        return Err(format!("sequential set {labels:?}, arena {last_set:?}"));
     }
     Ok(())
 }

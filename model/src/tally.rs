@@ -1,8 +1,8 @@
 //! Counts of what the comparison has met; a count of 0 is a failed check.
 
-use std::collections::{BTreeMap, HashSet};
+use std::collections::{BTreeMap, HashMap, HashSet};
 
-use crate::arena::{HEAD, TAIL};
+use crate::arena::{length_in, ADD, HEAD, TAIL};
 use crate::bench::Outcome;
 use crate::damage::{DAMAGES, SEVERAL};
 use crate::generate::{Generated, Kind};
@@ -19,6 +19,9 @@ const ENTRY_REFUSED: [(&str, usize); 3] = [
     ("entries refused 4", 4),
     ("entries refused 5", 5),
 ];
+const BAD_LENGTH: &str = "entries refused for their length alone";
+const OTHER_LENGTH: &str = "adds of a stored key, of another length";
+const STORED_AGAIN: &str = "keys stored again, of another length";
 const WAITS: &str = "waits";
 const WAITED_AGAIN: &str = "calls with several waits";
 const WAITED_FOR_MORE: &str = "calls that waited for several workers";
@@ -58,6 +61,9 @@ impl Tally {
             BAD_LINE,
             BAD_LINE_0,
             REFUSED_8,
+            BAD_LENGTH,
+            OTHER_LENGTH,
+            STORED_AGAIN,
             WAITS,
             WAITED_AGAIN,
             WAITED_FOR_MORE,
@@ -134,6 +140,7 @@ impl Tally {
         self.largest("calls", trace.calls.len());
         self.largest("waits", trace.waits.len());
         self.note_waits(trace);
+        self.note_lengths(trace);
         self.met(RETRIES, u64::from(trace.retries));
         self.met(REUSED, u64::from(trace.reused_nodes));
         for (name, number) in ENTRY_REFUSED {
@@ -142,7 +149,7 @@ impl Tally {
         for (call, &decided) in trace.calls.iter().zip(&trace.decided) {
             let full = call.answer == Answer::Full.number();
             let late = call.point < decided;
-            let back_again = trace.sets[decided as usize].contains(&call.key);
+            let back_again = length_in(&trace.sets[decided as usize], call.key).is_some();
             self.met(FULL, u64::from(full));
             self.met(OPEN, u64::from(call.answer == 0));
             self.met(
@@ -151,6 +158,25 @@ impl Tally {
             );
             self.met(LATE, u64::from(late));
             self.met(OVERTAKEN, u64::from(call.is_contains_no() && back_again));
+        }
+    }
+
+    fn note_lengths(&mut self, trace: &Trace) {
+        self.met(BAD_LENGTH, u64::from(trace.refused_lengths));
+        let mut last_stored = HashMap::new();
+        for (call, &decided) in trace.calls.iter().zip(&trace.decided) {
+            let is_other = |length: u16| u64::from(length != call.length);
+            match (call.operation, Answer::from_number(call.answer)) {
+                (ADD, Some(Answer::No)) => {
+                    let stored = length_in(&trace.sets[decided as usize], call.key);
+                    self.met(OTHER_LENGTH, stored.map_or(0, is_other));
+                }
+                (ADD, Some(Answer::Yes)) => {
+                    let earlier = last_stored.insert(call.key, call.length);
+                    self.met(STORED_AGAIN, earlier.map_or(0, is_other));
+                }
+                _ => {}
+            }
         }
     }
 
@@ -215,7 +241,7 @@ impl Tally {
             println!("{title}");
             for (name, &count) in counts {
                 let note = if count == 0 { "  NOT MET" } else { "" };
-                println!("  {name:38} {count:9}{note}");
+                println!("  {name:40} {count:9}{note}");
                 good.push(count != 0);
             }
         }

@@ -38,8 +38,7 @@ pub enum Report {
     Finished(Answer),
 }
 
-/// The named words of a worker record. The eighth word is written only where the record becomes
-/// idle, so it is not carried here.
+/// The words of a worker record.
 #[derive(Clone, Copy)]
 struct Record {
     stage: u16,
@@ -49,6 +48,7 @@ struct Record {
     curr: u16,
     spare: u16,
     answer: u16,
+    length: u16,
 }
 
 impl Record {
@@ -61,10 +61,11 @@ impl Record {
             curr: words[CURR],
             spare: words[SPARE],
             answer: words[ANSWER],
+            length: words[CALL_LENGTH],
         }
     }
 
-    /// A turn never changes operation and key before the record becomes idle.
+    /// A turn never changes operation, key and length before the record becomes idle.
     fn write(self, words: &mut [u16]) {
         words[STAGE] = self.stage;
         words[PRED] = self.pred;
@@ -238,8 +239,9 @@ fn change(me: &mut Record, arena: &mut [u16], shape: Shape) -> Result<Next, u16>
         14 => match find_free(arena, shape) {
             None => decide(me, Answer::Full, 19),
             Some(node) => {
-                let at = shape.node_at(node);
-                arena[at..at + NODE_WORDS].copy_from_slice(&[me.key, me.curr, 0, 0]);
+                let record = [me.key, me.curr, 0, 0, me.length];
+                let words = &mut arena[shape.node_at(node)..][..shape.node_words()];
+                words.copy_from_slice(&record[..shape.node_words()]);
                 me.spare = node;
                 15
             }
