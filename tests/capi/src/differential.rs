@@ -6,12 +6,14 @@ mod coverage;
 mod damaged;
 mod lent;
 mod met;
+mod met_lengths;
 mod placed;
 mod reached;
 mod requests;
 mod schedules;
 pub mod tally;
 pub mod wrong;
+mod wrong_lengths;
 mod wrong_others;
 mod wrong_runs;
 mod wrong_turns;
@@ -19,12 +21,13 @@ mod wrong_turns;
 use std::sync::atomic::{AtomicU64, Ordering};
 use std::thread;
 
-use model::arena::{check_header, MAX_NODES, STAGE};
+use model::arena::{check_header, LAYOUT_2, MAX_NODES, STAGE};
 use model::rng::Rng;
 
 use crate::library::Library;
 use arenas::{Arenas, Kind};
 use comparer::{Comparer, Outcome};
+use coverage::Column;
 use met::TurnWait;
 use requests::Request;
 use tally::Tally;
@@ -157,8 +160,10 @@ impl<'a> Examiner<'a> {
         let kind = Kind::of(number);
         let outcome = self.comparer.compare(words, request);
         let (reply, stage) = (outcome.model_reply, stage_before(words, request));
+        let layout = layout_of(words, request);
+        let column = Column::of(layout, kind.is_reached());
         let coverage = &mut self.tally.coverage;
-        coverage.note(request.entry_point(), reply, stage, kind.is_reached());
+        coverage.note(request.entry_point(), reply, stage, column);
         if let Some(wait) = TurnWait::read(words, request, reply) {
             if kind.is_reached() {
                 coverage.note_wait(wait.is_for_other_busy());
@@ -167,6 +172,7 @@ impl<'a> Examiner<'a> {
         }
         let written = self.comparer.last_run();
         self.tally.met.note_reply(request, reply, written);
+        self.tally.met.note_length(words, request, reply);
         if self.tells_all {
             println!("{request}: the model's reply is {reply}");
         }
@@ -183,6 +189,15 @@ impl<'a> Examiner<'a> {
 fn fitted(words: &[u16], length: usize) -> Vec<u16> {
     let repeated = words.iter().chain(&[7]).cycle();
     repeated.take(length).copied().collect()
+}
+
+/// The layout that is to be laid, or the one that the arena names.
+fn layout_of(words: &[u16], request: &Request) -> u16 {
+    match *request {
+        Request::Init { layout, .. } => layout,
+        Request::Run { .. } => LAYOUT_2,
+        _ => words.first().copied().unwrap_or(0),
+    }
 }
 
 /// The stage of the worker that gets a turn; of no use if the turn is refused.

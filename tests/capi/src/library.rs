@@ -11,11 +11,20 @@ pub const WAIT_WORDS: usize = 4;
 
 /// The C interface: lent words are changed in place, and a reply is one number.
 pub trait Library: Sync {
-    fn init(&self, arena: &mut [u16], workers: u16, nodes: u16) -> u64;
-    fn start(&self, arena: &mut [u16], worker: u16, operation: u16, key: u16) -> u64;
+    fn init(&self, arena: &mut [u16], layout: u16, workers: u16, nodes: u16) -> u64;
+    fn start(&self, arena: &mut [u16], worker: u16, call: Start) -> u64;
     fn turn(&self, arena: &mut [u16], worker: u16) -> u64;
     fn snapshot(&self, arena: &[u16], keys: &mut [u16]) -> u64;
     fn run(&self, run: Run) -> u64;
+}
+
+/// The call that a worker is to start.
+#[derive(Clone, Copy, Debug)]
+pub struct Start {
+    pub operation: u16,
+    pub key: u16,
+    /// Of the label.
+    pub length: u16,
 }
 
 /// What a run is given and lent.
@@ -54,13 +63,20 @@ impl Run<'_> {
 
 mod c {
     extern "C" {
-        pub fn lazy_list_init(arena: *mut u16, length: usize, workers: u16, nodes: u16) -> u64;
+        pub fn lazy_list_init(
+            arena: *mut u16,
+            length: usize,
+            layout: u16,
+            workers: u16,
+            nodes: u16,
+        ) -> u64;
         pub fn lazy_list_start(
             arena: *mut u16,
             length: usize,
             worker: u16,
             operation: u16,
             key: u16,
+            label_length: u16,
         ) -> u64;
         pub fn lazy_list_turn(arena: *mut u16, length: usize, worker: u16) -> u64;
         pub fn lazy_list_snapshot(
@@ -90,12 +106,26 @@ mod c {
 pub struct Proved;
 
 impl Library for Proved {
-    fn init(&self, arena: &mut [u16], workers: u16, nodes: u16) -> u64 {
-        unsafe { c::lazy_list_init(arena.as_mut_ptr(), arena.len(), workers, nodes) }
+    fn init(&self, arena: &mut [u16], layout: u16, workers: u16, nodes: u16) -> u64 {
+        unsafe { c::lazy_list_init(arena.as_mut_ptr(), arena.len(), layout, workers, nodes) }
     }
 
-    fn start(&self, arena: &mut [u16], worker: u16, operation: u16, key: u16) -> u64 {
-        unsafe { c::lazy_list_start(arena.as_mut_ptr(), arena.len(), worker, operation, key) }
+    fn start(&self, arena: &mut [u16], worker: u16, call: Start) -> u64 {
+        let Start {
+            operation,
+            key,
+            length,
+        } = call;
+        unsafe {
+            c::lazy_list_start(
+                arena.as_mut_ptr(),
+                arena.len(),
+                worker,
+                operation,
+                key,
+                length,
+            )
+        }
     }
 
     fn turn(&self, arena: &mut [u16], worker: u16) -> u64 {
@@ -190,12 +220,13 @@ fn count_values(count: usize) -> Values {
 }
 
 impl Library for Model {
-    fn init(&self, arena: &mut [u16], workers: u16, nodes: u16) -> u64 {
-        number(arena::init(arena, workers, nodes).map(|()| Values::default()))
+    fn init(&self, arena: &mut [u16], layout: u16, workers: u16, nodes: u16) -> u64 {
+        number(arena::init(arena, layout, workers, nodes).map(|()| Values::default()))
     }
 
-    fn start(&self, arena: &mut [u16], worker: u16, operation: u16, key: u16) -> u64 {
-        number(arena::start(arena, worker, operation, key).map(|()| Values::default()))
+    fn start(&self, arena: &mut [u16], worker: u16, call: Start) -> u64 {
+        let started = arena::start(arena, worker, call.operation, call.key, call.length);
+        number(started.map(|()| Values::default()))
     }
 
     fn turn(&self, arena: &mut [u16], worker: u16) -> u64 {
@@ -236,6 +267,7 @@ fn call_words(call: run::Call) -> [u16; CALL_WORDS] {
         point,
         finish,
         answer,
+        length: _,
     } = call;
     [worker, operation, key, start, point, finish, answer]
 }

@@ -8,7 +8,7 @@ use model::rng::Rng;
 use model::turn::{turn, Report};
 
 use crate::benchmark::measure::Words;
-use crate::benchmark::workloads::{Entries, Inits, Runs, SameTurn, Snapshots};
+use crate::benchmark::workloads::{Entries, Entry, Inits, Runs, SameTurn, Snapshots};
 use crate::library::{CALL_WORDS, WAIT_WORDS};
 
 const SEED: u64 = 5;
@@ -17,18 +17,25 @@ const WORKERS: u16 = MAX_WORKERS;
 const MANY_ENTRIES: usize = 64_000;
 const REPEATS: usize = 1_000;
 
-/// An arena whose chain holds the keys 2, 4, 6, and so on.
-fn arena_with_keys(nodes: u16, keys: u16) -> Vec<u16> {
-    let shape = Shape {
-        workers: WORKERS,
-        nodes,
-    };
+/// A label's length where none is wanted in particular.
+const LENGTH: u16 = 2;
+
+fn fresh(layout: u16, nodes: u16) -> Vec<u16> {
+    let shape = Shape::new(layout, WORKERS, nodes).expect("good counts");
     let mut arena = vec![0; shape.total()];
-    init(&mut arena, WORKERS, nodes).expect("good counts");
+    init(&mut arena, layout, WORKERS, nodes).expect("words enough");
+    arena
+}
+
+/// An arena of layout 2 whose chain holds the keys 2, 4, 6, and so on.
+fn arena_with_keys(nodes: u16, keys: u16) -> Vec<u16> {
+    let mut arena = fresh(LAYOUT_2, nodes);
+    let shape = shape_of(&arena);
     let mut last = HEAD;
     for node in 2..2 + keys {
         let at = shape.node_at(node);
-        arena[at..at + NODE_WORDS].copy_from_slice(&[2 * (node - 1), TAIL, 0, 0]);
+        let record = [2 * (node - 1), TAIL, 0, 0, LENGTH];
+        arena[at..at + MAX_NODE_WORDS].copy_from_slice(&record);
         arena[shape.node_at(last) + NEXT] = node;
         last = node;
     }
@@ -47,19 +54,20 @@ fn deal(
     rng: &mut Rng,
     count: usize,
     call: impl Fn(&mut Rng) -> (u16, u16),
-) -> Vec<[u16; 3]> {
+) -> Vec<Entry> {
     let shape = shape_of(arena);
     let mut entries = Vec::with_capacity(count);
     while entries.len() < count {
         let worker = rng.word(0, WORKERS - 1);
         if arena[shape.worker_at(worker) + STAGE] == 0 {
             let (operation, key) = call(rng);
-            start(arena, worker, operation, key).expect("an idle worker");
-            entries.push([worker, operation, key]);
+            let length = if operation == ADD { LENGTH } else { 0 };
+            start(arena, worker, operation, key, length).expect("an idle worker");
+            entries.push([worker, operation, key, length]);
         } else {
             let report = turn(arena, worker).expect("a sound arena");
             if !matches!(report, Report::Waits { .. }) || rng.chance(10) {
-                entries.push([worker, 0, 0]);
+                entries.push([worker, 0, 0, 0]);
             }
         }
     }
@@ -90,11 +98,11 @@ pub fn lookups(nodes: u16, walkers: u16) -> Entries {
     let keys = nodes - 2;
     let mut arena = arena_with_keys(nodes, keys);
     for worker in 0..walkers {
-        start(&mut arena, worker, CONTAINS, 2 * keys + 1).expect("an idle worker");
+        start(&mut arena, worker, CONTAINS, 2 * keys + 1, 0).expect("an idle worker");
     }
     // Stage 22; 23 and 24 at Head and at each key; 23 at Tail.
     let turns_each = 1 + 2 * (1 + keys) + 1;
-    let round = (0..walkers).map(|worker| [worker, 0, 0]);
+    let round = (0..walkers).map(|worker| [worker, 0, 0, 0]);
     let entries = (0..turns_each).flat_map(|_| round.clone()).collect();
     Entries {
         words: Words::new(arena, 0),
@@ -121,7 +129,7 @@ pub fn ordinary_turns(nodes: u16) -> Entries {
 pub fn stage_14(nodes: u16, keys: u16) -> SameTurn {
     let mut arena = arena_with_keys(nodes, keys);
     let shape = shape_of(&arena);
-    start(&mut arena, 0, ADD, 2 * keys + 1).expect("an idle worker");
+    start(&mut arena, 0, ADD, 2 * keys + 1, LENGTH).expect("an idle worker");
     while arena[shape.worker_at(0) + STAGE] != 14 {
         turn(&mut arena, 0).expect("a sound arena");
     }
@@ -130,7 +138,7 @@ pub fn stage_14(nodes: u16, keys: u16) -> SameTurn {
     SameTurn {
         words: Words::new(arena, 0),
         worker_at: shape.worker_at(0),
-        node_at: shape.node_at(taken),
+        node: shape.node_at(taken)..shape.node_at(taken + 1),
         repeats: REPEATS,
     }
 }
@@ -148,7 +156,7 @@ pub fn runs(nodes: u16, entries: usize, greatest_key: u16) -> Runs {
         )
     };
     let schedules: Vec<_> = (0..MANY_ENTRIES / entries).map(schedule).collect();
-    let starts_in = |entries: &Vec<[u16; 3]>| entries.iter().filter(|entry| entry[1] != 0).count();
+    let starts_in = |entries: &Vec<Entry>| entries.iter().filter(|entry| entry[1] != 0).count();
     let most_starts = schedules.iter().map(starts_in).max().unwrap_or(0);
     let history_words = CALL_WORDS * most_starts;
     let waits_rows = waits_rows(&schedules, nodes);
@@ -168,9 +176,9 @@ pub fn runs(nodes: u16, entries: usize, greatest_key: u16) -> Runs {
 
 /// Where the waits of each run are lent: with room for as many as it has entries, and from where
 /// those of the run before end, so that all are kept for comparing and little memory is touched.
-fn waits_rows(schedules: &[Vec<[u16; 3]>], nodes: u16) -> Vec<Range<usize>> {
+fn waits_rows(schedules: &[Vec<Entry>], nodes: u16) -> Vec<Range<usize>> {
     let mut from = 0;
-    let mut row = |entries: &Vec<[u16; 3]>| {
+    let mut row = |entries: &Vec<Entry>| {
         let room = WAIT_WORDS * entries.len();
         let here = from..from + room;
         from += WAIT_WORDS * waits_in(entries, nodes);
@@ -180,7 +188,7 @@ fn waits_rows(schedules: &[Vec<[u16; 3]>], nodes: u16) -> Vec<Range<usize>> {
 }
 
 /// How many turns of a run wait.
-fn waits_in(entries: &[[u16; 3]], nodes: u16) -> usize {
+fn waits_in(entries: &[Entry], nodes: u16) -> usize {
     let mut arena = arena_with_keys(nodes, 0);
     let mut history = vec![0; CALL_WORDS * entries.len()];
     let mut waits = vec![0; WAIT_WORDS * entries.len()];
@@ -196,9 +204,10 @@ fn waits_in(entries: &[[u16; 3]], nodes: u16) -> usize {
     run.map_or(0, |totals| totals.waits as usize)
 }
 
-pub fn inits(nodes: u16) -> Inits {
+pub fn inits(layout: u16, nodes: u16) -> Inits {
     Inits {
-        words: Words::new(vec![0; arena_with_keys(nodes, 0).len()], 0),
+        words: Words::new(vec![0; fresh(layout, nodes).len()], 0),
+        layout,
         workers: WORKERS,
         nodes,
         repeats: REPEATS,

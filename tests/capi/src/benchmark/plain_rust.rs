@@ -2,20 +2,20 @@
 
 use model::plain;
 
-use crate::library::{total_words, Library, Model, Run};
+use crate::library::{total_words, Library, Model, Run, Start};
 
 /// Calls of the proved library cannot be inlined, so these are not either.
 pub struct PlainRust;
 
 impl Library for PlainRust {
     #[inline(never)]
-    fn init(&self, arena: &mut [u16], workers: u16, nodes: u16) -> u64 {
-        Model.init(arena, workers, nodes)
+    fn init(&self, arena: &mut [u16], layout: u16, workers: u16, nodes: u16) -> u64 {
+        Model.init(arena, layout, workers, nodes)
     }
 
     #[inline(never)]
-    fn start(&self, arena: &mut [u16], worker: u16, operation: u16, key: u16) -> u64 {
-        Model.start(arena, worker, operation, key)
+    fn start(&self, arena: &mut [u16], worker: u16, call: Start) -> u64 {
+        Model.start(arena, worker, call)
     }
 
     #[inline(never)]

@@ -1,5 +1,7 @@
 //! What the two tables measure.
 
+use model::arena::{LAYOUT_1, LAYOUT_2};
+
 use crate::benchmark::inputs;
 use crate::benchmark::measure::{measure, Measured, Workload};
 
@@ -47,8 +49,12 @@ pub fn side_by_side(rounds: usize, show: &mut dyn FnMut(Row)) {
     };
     show(run("entry of a run, 1,024 nodes", 1_024));
     show(run("entry of a run, 64 nodes", 64));
-    let init = inputs::inits(1_024);
-    show(row("init, 1,024 nodes", Operation::Other, &init, rounds));
+    let init = |what, layout| {
+        let inits = inputs::inits(layout, 1_024);
+        row(what, Operation::Other, &inits, rounds)
+    };
+    show(init("init, 1,024 nodes, layout 1", LAYOUT_1));
+    show(init("init, 1,024 nodes, layout 2", LAYOUT_2));
     let snapshot = inputs::snapshots(1_024);
     show(row(
         "snapshot, 1,022 keys",

@@ -2,16 +2,19 @@
 
 use std::ops::Range;
 
-use model::arena::{NODE_WORDS, WORKER_WORDS};
+use model::arena::WORKER_WORDS;
+use model::run::ENTRY_WORDS;
 
 use crate::benchmark::measure::{Words, Workload};
-use crate::library::{Library, Run};
+use crate::library::{Library, Run, Start};
+
+/// Worker, act, key, length.
+pub type Entry = [u16; ENTRY_WORDS];
 
 /// Starts and turns one by one, as a print loop deals them.
 pub struct Entries {
     pub words: Words,
-    /// Worker, act, key.
-    pub entries: Vec<[u16; 3]>,
+    pub entries: Vec<Entry>,
 }
 
 impl Workload for Entries {
@@ -24,10 +27,15 @@ impl Workload for Entries {
     }
 
     fn pass<L: Library>(&self, library: &L, words: &mut Words, mut reply: impl FnMut(u64)) {
-        for &[worker, act, key] in &self.entries {
-            reply(match act {
+        for &[worker, operation, key, length] in &self.entries {
+            let call = Start {
+                operation,
+                key,
+                length,
+            };
+            reply(match operation {
                 0 => library.turn(&mut words.arena, worker),
-                operation => library.start(&mut words.arena, worker, operation, key),
+                _ => library.start(&mut words.arena, worker, call),
             });
         }
     }
@@ -38,7 +46,7 @@ impl Workload for Entries {
 pub struct SameTurn {
     pub words: Words,
     pub worker_at: usize,
-    pub node_at: usize,
+    pub node: Range<usize>,
     pub repeats: usize,
 }
 
@@ -53,7 +61,7 @@ impl Workload for SameTurn {
 
     fn pass<L: Library>(&self, library: &L, words: &mut Words, mut reply: impl FnMut(u64)) {
         let worker = self.worker_at..self.worker_at + WORKER_WORDS;
-        let node = self.node_at..self.node_at + NODE_WORDS;
+        let node = &self.node;
         for _ in 0..self.repeats {
             // Before the turn, so that what the last turn wrote is there to be compared.
             let first = &self.words.arena;
@@ -112,6 +120,7 @@ impl Workload for Runs {
 
 pub struct Inits {
     pub words: Words,
+    pub layout: u16,
     pub workers: u16,
     pub nodes: u16,
     pub repeats: usize,
@@ -128,7 +137,8 @@ impl Workload for Inits {
 
     fn pass<L: Library>(&self, library: &L, words: &mut Words, mut reply: impl FnMut(u64)) {
         for _ in 0..self.repeats {
-            reply(library.init(&mut words.arena, self.workers, self.nodes));
+            let arena = &mut words.arena;
+            reply(library.init(arena, self.layout, self.workers, self.nodes));
         }
     }
 }

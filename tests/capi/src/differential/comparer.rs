@@ -100,14 +100,12 @@ impl Desk {
     ) -> u64 {
         self.arena.lend(arena);
         match *request {
-            Request::Init { workers, nodes } => {
-                library.init(self.arena.words_mut(), workers, nodes)
-            }
-            Request::Start {
-                worker,
-                operation,
-                key,
-            } => library.start(self.arena.words_mut(), worker, operation, key),
+            Request::Init {
+                layout,
+                workers,
+                nodes,
+            } => library.init(self.arena.words_mut(), layout, workers, nodes),
+            Request::Start { worker, call } => library.start(self.arena.words_mut(), worker, call),
             Request::Turn { worker } => library.turn(self.arena.words_mut(), worker),
             Request::Snapshot { room } => {
                 self.keys.lend(&background[..room]);

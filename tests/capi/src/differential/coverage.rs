@@ -1,10 +1,27 @@
-//! What the comparison must have met: every reply and every move that the documents know.
+//! What the comparison must have met: every reply and every move that the documents know, in both
+//! layouts.
+
+use model::arena::LAYOUTS;
 
 use super::requests::EntryPoint;
 use crate::library::{self, Values};
 
-/// Two counts: on arenas reached from a fresh one, and on all others.
-type Counts = [u64; 2];
+/// Of either layout, on arenas reached from a fresh one and on all others; and of no layout.
+const COLUMNS: [&str; 5] = ["1, fresh", "1, others", "2, fresh", "2, others", "neither"];
+type Counts = [u64; COLUMNS.len()];
+const NEITHER: usize = 4;
+
+/// Where a reply is counted.
+#[derive(Clone, Copy)]
+pub struct Column(usize);
+
+impl Column {
+    pub fn of(layout: u16, reached: bool) -> Column {
+        let place = LAYOUTS.iter().position(|&known| known == layout);
+        let others = usize::from(!reached);
+        Column(place.map_or(NEITHER, |place| 2 * place + others))
+    }
+}
 
 /// The refusals of each entry point, in document 01's order.
 const REFUSALS: [(EntryPoint, &str, &[u64]); 5] = [
@@ -15,6 +32,16 @@ const REFUSALS: [(EntryPoint, &str, &[u64]); 5] = [
     (EntryPoint::Run, "run", &[10, 9, 1, 8]),
 ];
 const ACCEPTED: u64 = 0;
+/// What may be met where neither layout is named.
+const WITHOUT_LAYOUT: [(EntryPoint, u64); 7] = [
+    (EntryPoint::Init, 10),
+    (EntryPoint::Start, 1),
+    (EntryPoint::Start, 2),
+    (EntryPoint::Turn, 1),
+    (EntryPoint::Turn, 2),
+    (EntryPoint::Snapshot, 1),
+    (EntryPoint::Snapshot, 2),
+];
 
 /// What no arena reached from a fresh one may meet. Document 01 says it of turns; for start and
 /// snapshot it follows, since stages stay in their range and keys rise along every chain.
@@ -83,8 +110,8 @@ pub struct Coverage {
 
 impl Coverage {
     /// Notes the model's reply; `stage` is where the worker of a turn stood.
-    pub fn note(&mut self, entry_point: EntryPoint, reply: u64, stage: u16, reached: bool) {
-        let column = usize::from(!reached);
+    pub fn note(&mut self, entry_point: EntryPoint, reply: u64, stage: u16, column: Column) {
+        let Column(column) = column;
         // A refusal carries no values, so it is the whole reply.
         let values = Values::read(reply);
         let refusal = if values.is_some() { ACCEPTED } else { reply };
@@ -142,16 +169,11 @@ impl Coverage {
             for refusal in 0..11 {
                 let counts = self.replies[entry_point as usize][refusal as usize];
                 let is_allowed = refusal == ACCEPTED || allowed.contains(&refusal);
-                let never = NEVER_FROM_FRESH.contains(&(entry_point, refusal));
                 let row = match refusal {
                     ACCEPTED => format!("{name} accepted"),
                     _ => format!("{name} refused {refusal}"),
                 };
-                let rule = Rule {
-                    allowed: [is_allowed && !never, is_allowed],
-                    // Arenas in use have nothing broken in them, so they need not meet all.
-                    missing: is_allowed && counts == [0, 0],
-                };
+                let rule = Rule::of_reply(entry_point, refusal, is_allowed, counts);
                 print_row(&row, counts, rule, good);
             }
         }
@@ -165,8 +187,8 @@ impl Coverage {
                 let allowed = is_move || NO_MOVES.contains(&(stage, report));
                 let row = format!("{stage} {}", report_name(report));
                 let rule = Rule {
-                    allowed: [allowed; 2],
-                    missing: allowed && counts.contains(&0),
+                    allowed: [allowed, allowed, allowed, allowed, false],
+                    missing: allowed && counts[..NEITHER].contains(&0),
                 };
                 print_row(&row, counts, rule, good);
             }
@@ -174,19 +196,43 @@ impl Coverage {
     }
 }
 
-/// What a row of two counts must be.
+/// What a row of counts must be.
 struct Rule {
     /// Per column whether it may be met at all.
-    allowed: [bool; 2],
+    allowed: [bool; COLUMNS.len()],
     /// Whether something that must be met was not.
     missing: bool,
 }
 
+impl Rule {
+    fn of_reply(entry_point: EntryPoint, refusal: u64, is_allowed: bool, counts: Counts) -> Rule {
+        let fresh = is_allowed && !NEVER_FROM_FRESH.contains(&(entry_point, refusal));
+        // A run lays layout 2 alone.
+        let in_1 = entry_point != EntryPoint::Run;
+        let neither = WITHOUT_LAYOUT.contains(&(entry_point, refusal));
+        let allowed = [
+            fresh && in_1,
+            is_allowed && in_1,
+            fresh,
+            is_allowed,
+            neither,
+        ];
+        // Arenas in use have nothing broken in them, so they need not meet all.
+        let met = [
+            counts[0] + counts[1],
+            counts[2] + counts[3],
+            counts[NEITHER],
+        ];
+        let wanted = [allowed[1], allowed[3], allowed[NEITHER]];
+        let missing = (0..3).any(|place| wanted[place] && met[place] == 0);
+        Rule { allowed, missing }
+    }
+}
+
 /// Prints a row and pushes its check; a row that may not be met and was not is left out.
 fn print_row(row: &str, counts: Counts, rule: Rule, good: &mut Vec<bool>) {
-    let [reached, others] = counts;
-    let met_wrongly = (0..2).any(|column| counts[column] != 0 && !rule.allowed[column]);
-    if rule.allowed == [false; 2] && !met_wrongly {
+    let met_wrongly = (0..COLUMNS.len()).any(|column| counts[column] != 0 && !rule.allowed[column]);
+    if rule.allowed == [false; COLUMNS.len()] && !met_wrongly {
         return;
     }
     let note = match (met_wrongly, rule.missing) {
@@ -194,12 +240,14 @@ fn print_row(row: &str, counts: Counts, rule: Rule, good: &mut Vec<bool>) {
         (false, true) => "  NOT MET",
         _ => "",
     };
-    println!("  {row:35} {reached:10} {others:10}{note}");
+    let counts = counts.map(|count| format!("{count:>10}")).concat();
+    println!("  {row:26}{counts}{note}");
     good.push(note.is_empty());
 }
 
 fn heading(title: &str) {
-    println!("{title:37} {:>10} {:>10}", "from fresh", "others");
+    let columns = COLUMNS.map(|name| format!("{name:>10}")).concat();
+    println!("{title:28}{columns}");
 }
 
 /// Where a report is counted: past the end for none of the documents'.

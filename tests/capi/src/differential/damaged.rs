@@ -3,24 +3,45 @@
 use model::arena::*;
 use model::rng::Rng;
 
-use super::placed::{build_chain, fresh, place_worker, words_past_total};
+use super::placed::{build_chain, fresh, place_worker, some_layout, words_past_total};
 
-/// Changes one to three words of a good arena, or its length. A changed link may lead nowhere,
-/// past some keys, or into a circle.
+/// Changes one to three words of a good arena, its layout, or its length. A changed link may lead
+/// nowhere, past some keys, or into a circle.
 pub fn damage(rng: &mut Rng, words: &mut Vec<u16>) {
-    if rng.chance(10) {
-        change_length(rng, words);
-        return;
+    match rng.range(0, 99) {
+        0..=9 => change_length(rng, words),
+        10..=19 => change_layout(rng, words),
+        _ => change_words(rng, words),
     }
+}
+
+/// Another layout's number, its total, or its whole header; there may be too few words for it.
+fn change_layout(rng: &mut Rng, words: &mut Vec<u16>) {
+    let shape = check_header(words).expect("a good arena so far");
+    let other = Shape {
+        layout: *rng.pick(&[0, 1, 2, 3]),
+        ..shape
+    };
+    match rng.range(0, 2) {
+        0 => words[0] = other.layout,
+        1 => words[5] = other.total() as u16,
+        _ => words[..HEADER_WORDS].copy_from_slice(&other.header()),
+    }
+    if rng.chance(50) {
+        words.resize(words.len().max(other.total()), 0);
+    }
+}
+
+fn change_words(rng: &mut Rng, words: &mut [u16]) {
     for _ in 0..rng.range(1, 3) {
-        let Some(shape) = Shape::new(words[1], words[2]) else {
+        let Some(shape) = Shape::new(words[0], words[1], words[2]) else {
             return;
         };
         let at = match rng.range(0, 9) {
             0..=1 => rng.index(HEADER_WORDS),
             2..=4 => HEADER_WORDS + rng.index(WORKER_WORDS * shape.workers as usize),
             5..=7 => shape.node_at(node_in_use(rng, words, shape)) + NEXT,
-            _ => shape.node_at(rng.word(0, shape.nodes - 1)) + rng.index(NODE_WORDS),
+            _ => shape.node_at(rng.word(0, shape.nodes - 1)) + rng.index(shape.node_words()),
         };
         // A damaged header may tell of more than is there.
         if let Some(word) = words.get_mut(at) {
@@ -65,7 +86,11 @@ fn change_length(rng: &mut Rng, words: &mut Vec<u16>) {
 pub fn large(rng: &mut Rng, words: &mut Vec<u16>) {
     let nodes = *rng.pick(&[100, 512, 1_023, 1_024, 1_024]);
     let workers = *rng.pick(&[1, 7, 8, 8]);
-    let shape = Shape { workers, nodes };
+    let shape = Shape {
+        layout: some_layout(rng),
+        workers,
+        nodes,
+    };
     fresh(shape, words);
     match rng.range(0, 3) {
         0..=1 => build_chain(rng, words, shape),
@@ -108,6 +133,7 @@ fn search_from_head(rng: &mut Rng, words: &mut [u16], shape: Shape, worker: u16)
     }
     let key = rng.word(1, 65_534);
     let first = words[shape.node_at(HEAD) + NEXT];
-    let record = [14, ADD, key, HEAD, first, NONE, 0, 0];
+    let length = rng.word(0, 65_535);
+    let record = [14, ADD, key, HEAD, first, NONE, 0, length];
     words[shape.worker_at(worker)..][..WORKER_WORDS].copy_from_slice(&record);
 }

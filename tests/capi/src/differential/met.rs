@@ -4,14 +4,18 @@
 use std::collections::BTreeMap;
 
 use model::arena::*;
-use model::run::MAX_SCHEDULE_WORDS;
+use model::run::{ENTRY_WORDS, MAX_SCHEDULE_WORDS};
 
 use super::comparer::Written;
+use super::met_lengths;
 use super::requests::Request;
 use super::schedules::needed;
 use crate::library::{self, Values, CALL_WORDS, WAIT_WORDS};
 
-const LARGEST: &str = "arenas of 8 workers and 1,024 nodes";
+const LARGEST: [&str; 2] = [
+    "arenas of layout 1, 8 workers and 1,024 nodes",
+    "arenas of layout 2, 8 workers and 1,024 nodes",
+];
 const ALL_NODES: &str = "snapshots of 1,022 keys";
 const KEYS_FIT: &str = "snapshots with no word to spare";
 const KEYS_SPARE: &str = "snapshots with words to spare";
@@ -42,8 +46,9 @@ const LOST: &str = "look-ups that lost their key on the way";
 const CAME_BACK: &str = "look-ups whose key came back before they ended";
 
 /// In the order in which they are printed.
-const ALL: [&str; 29] = [
-    LARGEST,
+const ALL: [&str; 30] = [
+    LARGEST[0],
+    LARGEST[1],
     ALL_NODES,
     KEYS_FIT,
     KEYS_SPARE,
@@ -109,15 +114,18 @@ impl<'a> TurnWait<'a> {
 pub struct Met(BTreeMap<&'static str, u64>);
 
 impl Met {
-    fn add(&mut self, name: &'static str, is_met: bool) {
+    pub fn add(&mut self, name: &'static str, is_met: bool) {
         if is_met {
             *self.0.entry(name).or_insert(0) += 1;
         }
     }
 
     pub fn note_arena(&mut self, words: &[u16]) {
-        let largest = Shape::new(MAX_WORKERS, MAX_NODES);
-        self.add(LARGEST, check_header(words).ok() == largest);
+        for (place, layout) in LAYOUTS.into_iter().enumerate() {
+            let largest = Shape::new(layout, MAX_WORKERS, MAX_NODES);
+            self.add(LARGEST[place], check_header(words).ok() == largest);
+        }
+        self.note_totals(words);
     }
 
     pub fn note_wait(&mut self, wait: &TurnWait) {
@@ -162,7 +170,10 @@ impl Met {
         let &[entries, refused, waits, calls] = written.totals else {
             return;
         };
-        self.add(LONGEST, entries as usize == MAX_SCHEDULE_WORDS / 3);
+        self.add(
+            LONGEST,
+            entries as usize == MAX_SCHEDULE_WORDS / ENTRY_WORDS,
+        );
         self.add(REFUSED, refused != 0);
         let (history, used) = (written.history, CALL_WORDS * calls as usize);
         self.add(CALLS_FIT, used == history.len());
@@ -231,6 +242,6 @@ impl Met {
             println!("  {name:46} {count:10}{note}");
             count != 0
         };
-        ALL.into_iter().map(line).collect()
+        ALL.into_iter().chain(met_lengths::ALL).map(line).collect()
     }
 }

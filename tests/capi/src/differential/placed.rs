@@ -26,7 +26,7 @@ pub fn good_header(rng: &mut Rng, words: &mut Vec<u16>) -> u16 {
         words.extend(arbitrary_worker(rng, shape));
     }
     for _ in 0..shape.nodes {
-        words.extend(arbitrary_node(rng, shape));
+        words.extend(&arbitrary_node(rng, shape)[..shape.node_words()]);
     }
     words_past_total(rng, words);
     let likely = rng.word(0, shape.workers - 1);
@@ -36,11 +36,22 @@ pub fn good_header(rng: &mut Rng, words: &mut Vec<u16>) -> u16 {
     likely
 }
 
-/// Counts in their ranges, mostly small.
+pub fn some_layout(rng: &mut Rng) -> u16 {
+    *rng.pick(&LAYOUTS)
+}
+
+/// The same counts in the other layout.
+pub fn in_other_layout(shape: Shape) -> Shape {
+    let layout = LAYOUT_1 + LAYOUT_2 - shape.layout;
+    Shape { layout, ..shape }
+}
+
+/// Either layout, and counts in their ranges, mostly small.
 pub fn small_shape(rng: &mut Rng) -> Shape {
     let most_workers = *rng.pick(&[2, 4, 8]);
     let most_nodes = *rng.pick(&[3, 5, 5, 8, 12, 12, 12, 40]);
     Shape {
+        layout: some_layout(rng),
         workers: rng.word(1, most_workers),
         nodes: rng.word(3, most_nodes),
     }
@@ -70,12 +81,22 @@ fn usually(rng: &mut Rng, usual: u16) -> u16 {
     }
 }
 
-/// Often 0, as marks, owners and eighth words are.
+/// Often 0, as marks and owners are.
 fn often_zero(rng: &mut Rng, usual: u16) -> u16 {
     if rng.chance(60) {
         0
     } else {
         usually(rng, usual)
+    }
+}
+
+/// Lengths in records, where any word may stand.
+fn any_length(rng: &mut Rng) -> u16 {
+    match rng.range(0, 9) {
+        0..=1 => 0,
+        2..=6 => rng.word(1, 30),
+        7..=8 => rng.word(0, 65_535),
+        _ => *rng.pick(&[1, 65_534, 65_535]),
     }
 }
 
@@ -85,14 +106,16 @@ fn arbitrary_worker(rng: &mut Rng, shape: Shape) -> [u16; WORKER_WORDS] {
     let key = call_key(rng);
     let [pred, curr, spare] = [(); 3].map(|()| node_number(rng, shape.nodes));
     let answer = usually(rng, 4);
-    let eighth = often_zero(rng, 1);
-    [stage, operation, key, pred, curr, spare, answer, eighth]
+    let length = any_length(rng);
+    [stage, operation, key, pred, curr, spare, answer, length]
 }
 
-fn arbitrary_node(rng: &mut Rng, shape: Shape) -> [u16; NODE_WORDS] {
+/// In layout 1 without its last word.
+fn arbitrary_node(rng: &mut Rng, shape: Shape) -> [u16; MAX_NODE_WORDS] {
     let key = usually(rng, 24);
     let next = node_number(rng, shape.nodes);
-    [key, next, often_zero(rng, 2), often_zero(rng, 9)]
+    let (mark, owner) = (often_zero(rng, 2), often_zero(rng, 9));
+    [key, next, mark, owner, any_length(rng)]
 }
 
 /// A good chain and, on a random worker (which is given back), a record at a random stage.
@@ -114,7 +137,7 @@ pub fn placed(rng: &mut Rng, words: &mut Vec<u16>) -> u16 {
 pub fn fresh(shape: Shape, words: &mut Vec<u16>) {
     words.clear();
     words.resize(shape.total(), 0);
-    init(words, shape.workers, shape.nodes).expect("counts in their ranges");
+    init(words, shape.layout, shape.workers, shape.nodes).expect("counts in their ranges");
 }
 
 /// A chain of rising keys over some or all nodes in any order, a few of them marked; the other
@@ -137,14 +160,15 @@ pub fn build_chain(rng: &mut Rng, words: &mut [u16], shape: Shape) {
             key += rng.word(1, largest_step);
             words[shape.node_at(last) + NEXT] = node;
             last = node;
-            [key, TAIL, u16::from(rng.chance(12)), 0]
+            [key, TAIL, u16::from(rng.chance(12)), 0, any_length(rng)]
         } else if rng.chance(50) {
             let leads_to = rng.word(0, shape.nodes - 1);
-            [usually(rng, 24), leads_to, 1, 0]
+            [usually(rng, 24), leads_to, 1, 0, any_length(rng)]
         } else {
             continue;
         };
-        words[shape.node_at(node)..][..NODE_WORDS].copy_from_slice(&record);
+        let width = shape.node_words();
+        words[shape.node_at(node)..][..width].copy_from_slice(&record[..width]);
     }
     match rng.range(0, 9) {
         0 => words[shape.node_at(TAIL) + NEXT] = node_number(rng, shape.nodes),
@@ -182,8 +206,8 @@ pub fn place_worker(rng: &mut Rng, words: &mut [u16], shape: Shape, worker: u16)
         17..=21 => *rng.pick(&[1, 1, 1, 2, 2, 3, 3, 0, 4]),
         _ => often_zero(rng, 4),
     };
-    let eighth = often_zero(rng, 1);
-    let record = [stage, operation, key, pred, curr, spare, answer, eighth];
+    let length = any_length(rng);
+    let record = [stage, operation, key, pred, curr, spare, answer, length];
     words[shape.worker_at(worker)..][..WORKER_WORDS].copy_from_slice(&record);
     for node in [pred, curr].into_iter().filter(|&node| node < shape.nodes) {
         own_or_mark(rng, &mut words[shape.node_at(node)..], worker);

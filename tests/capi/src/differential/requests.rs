@@ -7,7 +7,7 @@ use model::rng::Rng;
 
 use super::arenas::Arenas;
 use super::schedules;
-use crate::library::{CALL_WORDS, WAIT_WORDS};
+use crate::library::{Start, CALL_WORDS, WAIT_WORDS};
 
 #[derive(Clone, Copy, Debug, PartialEq, Eq)]
 pub enum EntryPoint {
@@ -20,13 +20,13 @@ pub enum EntryPoint {
 
 pub enum Request {
     Init {
+        layout: u16,
         workers: u16,
         nodes: u16,
     },
     Start {
         worker: u16,
-        operation: u16,
-        key: u16,
+        call: Start,
     },
     Turn {
         worker: u16,
@@ -60,12 +60,20 @@ impl Request {
 impl fmt::Display for Request {
     fn fmt(&self, out: &mut fmt::Formatter) -> fmt::Result {
         match self {
-            Request::Init { workers, nodes } => write!(out, "init workers {workers} nodes {nodes}"),
-            Request::Start {
-                worker,
-                operation,
-                key,
-            } => write!(out, "start worker {worker} operation {operation} key {key}"),
+            Request::Init {
+                layout,
+                workers,
+                nodes,
+            } => write!(out, "init layout {layout} workers {workers} nodes {nodes}"),
+            Request::Start { worker, call } => {
+                let Start {
+                    operation,
+                    key,
+                    length,
+                } = call;
+                write!(out, "start worker {worker} operation {operation} ")?;
+                write!(out, "key {key} length {length}")
+            }
             Request::Turn { worker } => write!(out, "turn worker {worker}"),
             Request::Snapshot { room } => write!(out, "snapshot into {room} words"),
             Request::Run {
@@ -113,12 +121,46 @@ pub fn call_key(rng: &mut Rng) -> u16 {
     }
 }
 
-/// The likely worker is mostly busy, so the others are tried more often.
+/// Lengths of calls: mostly one that this start may carry, else at an edge of the range, where it
+/// ends with the key, or any.
+pub fn call_length(rng: &mut Rng, layout: u16, operation: u16, key: u16) -> u16 {
+    let has_length = layout == LAYOUT_2 && operation == ADD;
+    let last = TAIL_KEY - key;
+    match rng.range(0, 9) {
+        0..=4 if has_length => rng.word(1, 20).min(last),
+        0..=5 if !has_length => 0,
+        6..=8 => *rng.pick(&[0, 1, 65_534, 65_535, last, last.wrapping_add(1)]),
+        _ => rng.word(0, 65_535),
+    }
+}
+
+/// Mostly an idle worker, if there is one: a busy one is refused before its call is looked at.
+fn start_worker(rng: &mut Rng, arenas: &Arenas) -> u16 {
+    let words = &arenas.words;
+    let Ok(shape) = check_header(words) else {
+        return worker(rng, arenas, 30);
+    };
+    let first = rng.word(0, shape.workers - 1);
+    let mut workers = (0..shape.workers).map(|place| (first + place) % shape.workers);
+    let idle = workers.find(|&worker| words[shape.worker_at(worker) + STAGE] == 0);
+    match idle {
+        Some(idle) if rng.chance(60) => idle,
+        _ => worker(rng, arenas, 30),
+    }
+}
+
 pub fn start(rng: &mut Rng, arenas: &Arenas) -> Request {
+    let operation = *rng.pick(&[0, ADD, ADD, ADD, REMOVE, REMOVE, CONTAINS, 4]);
+    let key = call_key(rng);
+    let layout = arenas.words.first().copied().unwrap_or(0);
+    let length = call_length(rng, layout, operation, key);
     Request::Start {
-        worker: worker(rng, arenas, 30),
-        operation: rng.word(0, 4),
-        key: call_key(rng),
+        worker: start_worker(rng, arenas),
+        call: Start {
+            operation,
+            key,
+            length,
+        },
     }
 }
 
@@ -144,13 +186,15 @@ fn counts(rng: &mut Rng) -> (u16, u16) {
     (workers, nodes)
 }
 
-/// A number of words about as large as these counts need.
-fn arena_length(rng: &mut Rng, workers: u16, nodes: u16) -> usize {
+/// A number of words about as large as this shape needs, or the same counts in the other layout.
+fn arena_length(rng: &mut Rng, shape: Shape) -> usize {
     // Counts far outside the ranges need no arena that fits them.
-    let needed = Shape { workers, nodes }.total().min(2 * MAX_WORDS);
+    let words = |layout| Shape { layout, ..shape }.total().min(2 * MAX_WORDS);
+    let needed = words(shape.layout);
     match rng.range(0, 9) {
         0..=3 => needed,
-        4..=7 => needed + rng.index(9),
+        4..=6 => needed + rng.index(9),
+        7 => *rng.pick(&LAYOUTS.map(words)),
         8 => needed - 1,
         _ => rng.index(needed),
     }
@@ -159,8 +203,21 @@ fn arena_length(rng: &mut Rng, workers: u16, nodes: u16) -> usize {
 /// Gives the request with the length of the arena for it.
 pub fn init(rng: &mut Rng) -> (usize, Request) {
     let (workers, nodes) = counts(rng);
-    let length = arena_length(rng, workers, nodes);
-    (length, Request::Init { workers, nodes })
+    let layout = match rng.range(0, 9) {
+        0 => *rng.pick(&[0, 3, 4, 257, 65_535]),
+        other => LAYOUTS[other as usize % 2],
+    };
+    let shape = Shape {
+        layout,
+        workers,
+        nodes,
+    };
+    let request = Request::Init {
+        layout,
+        workers,
+        nodes,
+    };
+    (arena_length(rng, shape), request)
 }
 
 /// Gives the request with the length of the arena for it.
@@ -170,7 +227,12 @@ pub fn run(rng: &mut Rng) -> (usize, Request) {
     let needed = schedules::needed(&schedule);
     let history_length = schedules::row_length(rng, needed.calls, CALL_WORDS);
     let waits_length = schedules::row_length(rng, needed.waits, WAIT_WORDS);
-    let length = arena_length(rng, workers, nodes);
+    let shape = Shape {
+        layout: LAYOUT_2,
+        workers,
+        nodes,
+    };
+    let length = arena_length(rng, shape);
     let request = Request::Run {
         workers,
         nodes,

@@ -2,10 +2,10 @@
 
 use model::arena::*;
 use model::rng::Rng;
-use model::run::{Room, MAX_SCHEDULE_WORDS};
+use model::run::{Room, ENTRY_WORDS, MAX_SCHEDULE_WORDS};
 
-/// Words of an entry: worker, act, key.
-const ENTRY_WORDS: usize = 3;
+use super::requests::call_length;
+
 const MAX_ENTRIES: usize = MAX_SCHEDULE_WORDS / ENTRY_WORDS;
 
 /// Mostly short; a few just at the greatest length, just above it, or not whole entries.
@@ -23,8 +23,11 @@ pub fn schedule(rng: &mut Rng, workers: u16) -> Vec<u16> {
         style.burst(rng, &mut words);
     }
     words.truncate(ENTRY_WORDS * entries);
-    if rng.chance(6) {
-        words.resize(words.len() + 1 + rng.index(2), 0);
+    match rng.range(0, 99) {
+        0..=4 => words.resize(words.len() + 1 + rng.index(ENTRY_WORDS - 1), 0),
+        // As many words as entries of three would take.
+        5..=6 => words.truncate(words.len() / ENTRY_WORDS * 3),
+        _ => {}
     }
     words
 }
@@ -60,11 +63,16 @@ impl Style {
             } else {
                 *rng.pick(&[0, 65_534, 65_535])
             };
-            words.extend([worker, act, key]);
+            let length = if rng.chance(90) {
+                u16::from(act == ADD) * rng.word(1, 9).min(TAIL_KEY - key)
+            } else {
+                call_length(rng, LAYOUT_2, act, key)
+            };
+            words.extend([worker, act, key, length]);
         }
         for _ in 0..rng.range(0, self.longest_burst) {
-            // The key of a turn is not looked at.
-            words.extend([worker, 0, rng.word(0, 65_535)]);
+            // The key and the length of a turn are not looked at.
+            words.extend([worker, 0, rng.word(0, 65_535), rng.word(0, 65_535)]);
         }
     }
 }

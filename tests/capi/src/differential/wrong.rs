@@ -1,20 +1,24 @@
 //! Libraries with one fault each. The comparison must tell every one of them from the model, or
 //! it would say nothing about the proved library either.
 
+use super::wrong_lengths::*;
 use super::wrong_others::*;
 use super::wrong_runs::*;
 use super::wrong_turns::*;
 use super::Comparison;
-use crate::library::{Library, Model, Run};
+use crate::library::{Library, Model, Run, Start};
 
 /// Arenas that a wrong library gets at most.
 const COUNT: u64 = 50_000;
 
+/// An arena, layout, workers and nodes.
+type Init = fn(&mut [u16], u16, u16, u16) -> u64;
+
 /// The model with some entry points replaced.
 struct Wrong {
     name: &'static str,
-    init: fn(&mut [u16], u16, u16) -> u64,
-    start: fn(&mut [u16], u16, u16, u16) -> u64,
+    init: Init,
+    start: fn(&mut [u16], u16, Start) -> u64,
     turn: fn(&mut [u16], u16) -> u64,
     snapshot: fn(&[u16], &mut [u16]) -> u64,
     run: fn(Run) -> u64,
@@ -22,14 +26,14 @@ struct Wrong {
 
 const RIGHT: Wrong = Wrong {
     name: "none of them",
-    init: |arena, workers, nodes| Model.init(arena, workers, nodes),
-    start: |arena, worker, operation, key| Model.start(arena, worker, operation, key),
+    init: |arena, layout, workers, nodes| Model.init(arena, layout, workers, nodes),
+    start: |arena, worker, call| Model.start(arena, worker, call),
     turn: |arena, worker| Model.turn(arena, worker),
     snapshot: |arena, keys| Model.snapshot(arena, keys),
     run: |run| Model.run(run),
 };
 
-const fn wrong_init(name: &'static str, init: fn(&mut [u16], u16, u16) -> u64) -> Wrong {
+const fn wrong_init(name: &'static str, init: Init) -> Wrong {
     Wrong {
         name,
         init,
@@ -37,7 +41,7 @@ const fn wrong_init(name: &'static str, init: fn(&mut [u16], u16, u16) -> u64) -
     }
 }
 
-const fn wrong_start(name: &'static str, start: fn(&mut [u16], u16, u16, u16) -> u64) -> Wrong {
+const fn wrong_start(name: &'static str, start: fn(&mut [u16], u16, Start) -> u64) -> Wrong {
     Wrong {
         name,
         start,
@@ -65,10 +69,37 @@ const fn wrong_run(name: &'static str, run: fn(Run) -> u64) -> Wrong {
     Wrong { name, run, ..RIGHT }
 }
 
-const WRONG: [Wrong; 38] = [
+const WRONG: [Wrong; 72] = [
     wrong_init("init writes a word past the total", init_past_total),
+    wrong_init("init wants layout 2's words for both", init_more_words),
+    wrong_init("init writes the other's total", init_other_total),
+    wrong_init("init takes layout 3", init_layout_3),
+    wrong_init("init: short arena before the layout", init_words_first),
+    wrong_init("init leaves the lengths", init_keeps_lengths),
     wrong_start("start writes a word too many", start_too_long),
     wrong_start("start: bad call before busy", start_bad_call_first),
+    wrong_start("start: bad length before busy", start_bad_length_first),
+    wrong_start("start: layout 1 takes a length", start_length_in_1),
+    wrong_start("start: a remove takes a length", start_remove_length),
+    wrong_start("start: a contains takes a length", start_contains_length),
+    wrong_start("start: an add takes length 0", start_no_length),
+    wrong_start("start: key and length up to 65,536", start_end_65536),
+    wrong_start("start: key and length up to 65,534", start_end_65534),
+    wrong_start("start: the sum in 16 bits", start_short_sum),
+    wrong_start("start forgets the length", start_forgets_length),
+    wrong_turn("turn: four words to a node in layout 2", turn_narrow),
+    wrong_turn("turn: five words to a node in layout 1", turn_wide),
+    wrong_turn("turn at 14 searches by four words", turn_narrow_search),
+    wrong_turn("turn: the other's total is good too", turn_other_total),
+    wrong_turn("turn: layout 3 is layout 2", turn_layout_3),
+    wrong_turn("turn: layout 0 is layout 1", turn_layout_0),
+    wrong_turn("turn at 14 leaves the length out", turn_no_length),
+    wrong_turn("turn at 14 writes the key as length", turn_key_for_length),
+    wrong_turn("turn at 14 writes worker 0's length", turn_first_length),
+    wrong_turn("turn at 14 writes lengths in layout 1", turn_length_in_1),
+    wrong_turn("turn at 14 refuses a bad length", turn_refuses_length),
+    wrong_turn("turn at 16 clears the length", turn_clears_length),
+    wrong_turn("turn at 21 leaves the eighth word", turn_leaves_length),
     wrong_turn("turn: odd header before short arena", turn_header_first),
     wrong_turn("turn: header word 7 not looked at", turn_seven_words),
     wrong_turn("turn: worker W is there too", turn_one_more_worker),
@@ -91,6 +122,7 @@ const WRONG: [Wrong; 38] = [
     wrong_snapshot("snapshot skips the last key", snapshot_skips),
     wrong_snapshot("snapshot writes without room", snapshot_no_room),
     wrong_snapshot("snapshot looks at Tail's key", snapshot_tail_key),
+    wrong_snapshot("snapshot: four words to a node", snapshot_narrow),
     wrong_run("run swaps waits and calls", run_swaps_totals),
     wrong_run("run dates a no by its last reading", run_late_no),
     wrong_run("run names the call after a wait's", run_next_call),
@@ -104,15 +136,21 @@ const WRONG: [Wrong; 38] = [
     wrong_run("run: no room before short arena", run_no_room_first),
     wrong_run("run takes any number of waits", run_short_waits),
     wrong_run("run needs no record for refused turns", run_refused_turns),
+    wrong_run("run takes a multiple of three words", run_multiple_of_3),
+    wrong_run("run takes 12,000 words at most", run_12000_words),
+    wrong_run("run lays layout 1's header", run_layout_1),
+    wrong_run("run looks at a turn's length", run_turn_length),
+    wrong_run("run stores every label with length 1", run_length_1),
+    wrong_run("run is refused for a bad length", run_bad_length),
 ];
 
 impl Library for Wrong {
-    fn init(&self, arena: &mut [u16], workers: u16, nodes: u16) -> u64 {
-        (self.init)(arena, workers, nodes)
+    fn init(&self, arena: &mut [u16], layout: u16, workers: u16, nodes: u16) -> u64 {
+        (self.init)(arena, layout, workers, nodes)
     }
 
-    fn start(&self, arena: &mut [u16], worker: u16, operation: u16, key: u16) -> u64 {
-        (self.start)(arena, worker, operation, key)
+    fn start(&self, arena: &mut [u16], worker: u16, call: Start) -> u64 {
+        (self.start)(arena, worker, call)
     }
 
     fn turn(&self, arena: &mut [u16], worker: u16) -> u64 {

@@ -2,33 +2,34 @@
 
 use model::arena::*;
 
-use crate::library::{Library, Model};
+use crate::library::{Library, Model, Start};
 
 const ACCEPTED: u64 = 0;
 /// Of a snapshot's count, which is the first value.
 const ONE_KEY: u64 = 1 << 16;
 
-pub fn init_past_total(arena: &mut [u16], workers: u16, nodes: u16) -> u64 {
-    let reply = Model.init(arena, workers, nodes);
+pub fn init_past_total(arena: &mut [u16], layout: u16, workers: u16, nodes: u16) -> u64 {
+    let reply = Model.init(arena, layout, workers, nodes);
     if reply == ACCEPTED {
-        if let Some(word) = arena.get_mut(Shape { workers, nodes }.total()) {
+        let total = arena[5] as usize;
+        if let Some(word) = arena.get_mut(total) {
             *word = 0;
         }
     }
     reply
 }
 
-pub fn start_too_long(arena: &mut [u16], worker: u16, operation: u16, key: u16) -> u64 {
-    let reply = Model.start(arena, worker, operation, key);
+pub fn start_too_long(arena: &mut [u16], worker: u16, call: Start) -> u64 {
+    let reply = Model.start(arena, worker, call);
     if reply == ACCEPTED {
         arena[HEADER_WORDS + WORKER_WORDS * (worker as usize + 1)] = 0;
     }
     reply
 }
 
-pub fn start_bad_call_first(arena: &mut [u16], worker: u16, operation: u16, key: u16) -> u64 {
-    let reply = Model.start(arena, worker, operation, key);
-    let good = (ADD..=CONTAINS).contains(&operation) && is_call_key(key);
+pub fn start_bad_call_first(arena: &mut [u16], worker: u16, call: Start) -> u64 {
+    let reply = Model.start(arena, worker, call);
+    let good = (ADD..=CONTAINS).contains(&call.operation) && is_call_key(call.key);
     if reply == u64::from(BUSY) && !good {
         return u64::from(BAD_CALL);
     }

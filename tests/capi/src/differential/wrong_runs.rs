@@ -1,7 +1,7 @@
 //! Runs with one fault each: the model's run, and then some words changed, or its room.
 
 use model::arena::{NO_ROOM, SHORT_ARENA};
-use model::run::run_traced;
+use model::run::{run_traced, ENTRY_WORDS};
 
 use crate::library::{Library, Model, Run, CALL_WORDS, WAIT_WORDS};
 
@@ -156,7 +156,11 @@ pub fn run_short_waits(run: Run) -> u64 {
 /// Right wherever no turn is refused, and where there is room enough.
 pub fn run_refused_turns(run: Run) -> u64 {
     let is_refused = |entry: &&[u16]| entry[1] == 0 && entry[0] >= run.workers;
-    let refused = run.schedule.chunks_exact(3).filter(is_refused).count();
+    let refused = run
+        .schedule
+        .chunks_exact(ENTRY_WORDS)
+        .filter(is_refused)
+        .count();
     let records = run.room().waits + refused;
     with_waits_room(run, records)
 }

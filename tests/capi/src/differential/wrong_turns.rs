@@ -15,7 +15,7 @@ const fn reply(report: u8, first: u16, second: u16) -> u64 {
     .number()
 }
 
-const fn moved(stage: u16) -> u64 {
+pub const fn moved(stage: u16) -> u64 {
     reply(MOVED, stage, 0)
 }
 
@@ -33,7 +33,7 @@ fn record_at(arena: &[u16], worker: u16) -> Option<(Shape, usize)> {
 
 /// Runs the model, then the fault, which gets the words before, the words after, the shape, where
 /// the record is, and the reply. It gives the wrong reply.
-fn then(
+pub fn then(
     arena: &mut [u16],
     worker: u16,
     fault: impl Fn(&[u16], &mut [u16], Shape, usize, u64) -> u64,
@@ -49,7 +49,7 @@ fn then(
 pub fn turn_header_first(arena: &mut [u16], worker: u16) -> u64 {
     let reply = Model.turn(arena, worker);
     let fits = |arena: &[u16]| {
-        let shape = Shape::new(arena[1], arena[2]);
+        let shape = Shape::new(arena[0], arena[1], arena[2]);
         shape.is_some_and(|shape| arena[..HEADER_WORDS] == shape.header())
     };
     if reply == u64::from(SHORT_ARENA) && arena.len() >= HEADER_WORDS && !fits(arena) {
@@ -148,7 +148,7 @@ pub fn turn_no_unlink(arena: &mut [u16], worker: u16) -> u64 {
 pub fn turn_eighth_word(arena: &mut [u16], worker: u16) -> u64 {
     then(arena, worker, |before, after, _, at, reply| {
         if after[at + STAGE] != before[at + STAGE] {
-            after[at + 7] = 0;
+            after[at + CALL_LENGTH] = 0;
         }
         reply
     })
@@ -236,8 +236,10 @@ fn search_by(
             (after[at + STAGE], after[at + ANSWER]) = (19, 3);
             return moved(19);
         };
-        let record = [before[at + CALL_KEY], before[at + CURR], 0, 0];
-        after[shape.node_at(node as u16)..][..NODE_WORDS].copy_from_slice(&record);
+        let (key, length) = (before[at + CALL_KEY], before[at + CALL_LENGTH]);
+        let record = [key, before[at + CURR], 0, 0, length];
+        let width = shape.node_words();
+        after[shape.node_at(node as u16)..][..width].copy_from_slice(&record[..width]);
         (after[at + STAGE], after[at + SPARE]) = (15, node as u16);
         moved(15)
     })
@@ -270,6 +272,18 @@ pub fn turn_without_tail(arena: &mut [u16], worker: u16) -> u64 {
         let roots = [vec![HEAD], worker_roots(arena, shape)].concat();
         let mut taken = reached(arena, shape, &roots, MAX_NODES as usize);
         taken[TAIL as usize] = true;
+        taken.iter().position(|&taken| !taken)
+    })
+}
+
+/// The links of layout 2 are read where those of layout 1 would stand.
+pub fn turn_narrow_search(arena: &mut [u16], worker: u16) -> u64 {
+    search_by(arena, worker, |arena, shape| {
+        let shape = Shape {
+            layout: LAYOUT_1,
+            ..shape
+        };
+        let taken = reached(arena, shape, &all_roots(arena, shape), MAX_NODES as usize);
         taken.iter().position(|&taken| !taken)
     })
 }
