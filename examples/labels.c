@@ -1,6 +1,6 @@
 /*
- * A printer with two workers. Worker 0 stores a label, looks it up and takes it out again, alone; then worker 1 finds it in the way. Last a
- * schedule is run in which worker 1 looks for a label while worker 0 takes it out, and waits for a node that worker 0 has.
+ * A printer with two workers. Worker 0 stores a label with its length, looks it up and takes it out again, alone; then worker 1 finds it in
+ * the way. Last a schedule is run in which worker 1 looks for a label while worker 0 takes it out, and waits for a node that worker 0 has.
  *
  *     rt staticlib capi
  *     cc -std=c99 -Iinclude examples/labels.c target/staticlib/libcapi.a -o labels && ./labels
@@ -9,37 +9,49 @@
 
 #include "lazy_list.h"
 
-enum { WORKERS = 2, NODES = 3, CALLS = 7, TURNS = 103, ENTRY_WORDS = 3, CALL_WORDS = 7, WAIT_WORDS = 4 };
+enum { LAYOUT = 2, WORKERS = 2, NODES = 3, CALLS = 7, TURNS = 103, NODE_WORDS = 5, ENTRY_WORDS = 4, CALL_WORDS = 7, WAIT_WORDS = 4 };
 
-static uint16_t arena[LAZY_LIST_WORDS(WORKERS, NODES)];
+static uint16_t arena[LAZY_LIST_WORDS(LAYOUT, WORKERS, NODES)];
 static const size_t arena_length = sizeof arena / sizeof *arena;
 
 static const char *const operations[] = {"none", "add", "remove", "contains"};
 static const char *const answers[] = {"open", "yes", "no", "full"};
 
-/* Starts a call on a worker and gives it turns until it has finished. Here nobody is in its way. */
-static void call(uint16_t worker, uint16_t operation, uint16_t key) {
-    uint64_t reply = lazy_list_start(arena, arena_length, worker, operation, key);
+/* Starts a call on a worker and gives it turns until it has finished. Here nobody is in its way. An add has a length, and other calls 0. */
+static void call(uint16_t worker, uint16_t operation, uint16_t key, uint16_t label_length) {
+    uint64_t reply = lazy_list_start(arena, arena_length, worker, operation, key, label_length);
     unsigned turns = 0;
 
     while (LAZY_LIST_REFUSAL(reply) == 0 && LAZY_LIST_REPORT(reply) != LAZY_LIST_FINISHED) {
         reply = lazy_list_turn(arena, arena_length, worker);
         turns++;
     }
-    printf("%s %u: ", operations[operation], (unsigned)key);
+    printf("%s %u", operations[operation], (unsigned)key);
+    if (label_length != 0)
+        printf(" length %u", (unsigned)label_length);
+    printf(": ");
     if (LAZY_LIST_REFUSAL(reply) != 0)
         printf("refused %u\n", (unsigned)LAZY_LIST_REFUSAL(reply));
     else
         printf("%s after %u turns\n", answers[LAZY_LIST_VALUE(reply)], turns);
 }
 
-static void print_keys(void) {
+/* The length that is kept with a stored key: the fifth word of its node, which Head leads to. */
+static unsigned length_of(uint16_t key) {
+    const uint16_t *nodes = arena + arena[4], *node = nodes;
+
+    while (node[0] != key)
+        node = nodes + NODE_WORDS * (size_t)node[1];
+    return node[4];
+}
+
+static void print_labels(void) {
     uint16_t keys[NODES - 2];
     uint64_t reply = lazy_list_snapshot(arena, arena_length, keys, sizeof keys / sizeof *keys);
 
     printf("stored:");
     for (size_t i = 0; i < LAZY_LIST_VALUE(reply); i++)
-        printf(" %u", (unsigned)keys[i]);
+        printf(" %u (length %u)", (unsigned)keys[i], length_of(keys[i]));
     printf("\n");
 }
 
@@ -47,10 +59,10 @@ static void print_keys(void) {
 static void meet_at_head(void) {
     uint64_t reply;
 
-    lazy_list_start(arena, arena_length, 0, LAZY_LIST_ADD, 5);
+    lazy_list_start(arena, arena_length, 0, LAZY_LIST_ADD, 5, 3);
     for (unsigned turns = 0; turns < 4; turns++)
         lazy_list_turn(arena, arena_length, 0);
-    lazy_list_start(arena, arena_length, 1, LAZY_LIST_ADD, 7);
+    lazy_list_start(arena, arena_length, 1, LAZY_LIST_ADD, 7, 2);
     do
         reply = lazy_list_turn(arena, arena_length, 1);
     while (LAZY_LIST_REPORT(reply) == LAZY_LIST_MOVED);
@@ -59,13 +71,18 @@ static void meet_at_head(void) {
                (unsigned)LAZY_LIST_SECOND(reply));
 }
 
-/* The same act of a worker so many times; a turn has no key. */
-static uint16_t *entries(uint16_t *at, unsigned count, uint16_t worker, uint16_t act, uint16_t key) {
-    for (; count > 0; count--) {
-        *at++ = worker;
-        *at++ = act;
-        *at++ = key;
-    }
+static uint16_t *entry(uint16_t *at, uint16_t worker, uint16_t act, uint16_t key, uint16_t label_length) {
+    *at++ = worker;
+    *at++ = act;
+    *at++ = key;
+    *at++ = label_length;
+    return at;
+}
+
+/* So many turns of a worker; their key and length are not looked at. */
+static uint16_t *turns(uint16_t *at, uint16_t worker, unsigned count) {
+    for (; count > 0; count--)
+        at = entry(at, worker, 0, 0, 0);
     return at;
 }
 
@@ -74,23 +91,23 @@ static uint16_t *entries(uint16_t *at, unsigned count, uint16_t worker, uint16_t
 static size_t write_schedule(uint16_t *schedule) {
     uint16_t *at = schedule;
 
-    at = entries(at, 1, 0, LAZY_LIST_ADD, 5);
-    at = entries(at, 14, 0, 0, 0);
-    at = entries(at, 1, 1, LAZY_LIST_CONTAINS, 5);
-    at = entries(at, 4, 1, 0, 0);
-    at = entries(at, 1, 0, LAZY_LIST_REMOVE, 5);
-    at = entries(at, 15, 0, 0, 0);
-    at = entries(at, 1, 0, LAZY_LIST_ADD, 7);
-    at = entries(at, 13, 0, 0, 0);
-    at = entries(at, 2, 1, 0, 0);
-    at = entries(at, 1, 0, LAZY_LIST_ADD, 7);
-    at = entries(at, 14, 0, 0, 0);
-    at = entries(at, 1, 0, LAZY_LIST_REMOVE, 7);
-    at = entries(at, 5, 0, 0, 0);
-    at = entries(at, 1, 1, LAZY_LIST_ADD, 9);
-    at = entries(at, 7, 1, 0, 0);
-    at = entries(at, 10, 0, 0, 0);
-    at = entries(at, 19, 1, 0, 0);
+    at = entry(at, 0, LAZY_LIST_ADD, 5, 3);
+    at = turns(at, 0, 14);
+    at = entry(at, 1, LAZY_LIST_CONTAINS, 5, 0);
+    at = turns(at, 1, 4);
+    at = entry(at, 0, LAZY_LIST_REMOVE, 5, 0);
+    at = turns(at, 0, 15);
+    at = entry(at, 0, LAZY_LIST_ADD, 7, 2);
+    at = turns(at, 0, 13);
+    at = turns(at, 1, 2);
+    at = entry(at, 0, LAZY_LIST_ADD, 7, 2);
+    at = turns(at, 0, 14);
+    at = entry(at, 0, LAZY_LIST_REMOVE, 7, 0);
+    at = turns(at, 0, 5);
+    at = entry(at, 1, LAZY_LIST_ADD, 9, 4);
+    at = turns(at, 1, 7);
+    at = turns(at, 0, 10);
+    at = turns(at, 1, 19);
     return (size_t)(at - schedule);
 }
 
@@ -121,18 +138,20 @@ static void run_schedule(void) {
 }
 
 int main(void) {
-    if (LAZY_LIST_REFUSAL(lazy_list_init(arena, arena_length, WORKERS, NODES)) != 0)
+    if (LAZY_LIST_REFUSAL(lazy_list_init(arena, arena_length, LAYOUT, WORKERS, NODES)) != 0)
         return 1;
-    call(0, LAZY_LIST_ADD, 5);
-    call(0, LAZY_LIST_CONTAINS, 5);
-    print_keys();
-    call(0, LAZY_LIST_ADD, 5);
-    call(0, LAZY_LIST_REMOVE, 5);
-    print_keys();
-    call(0, LAZY_LIST_CONTAINS, 5);
-    call(0, LAZY_LIST_ADD, 0);
+    call(0, LAZY_LIST_ADD, 5, 3);
+    call(0, LAZY_LIST_CONTAINS, 5, 0);
+    print_labels();
+    call(0, LAZY_LIST_ADD, 5, 4); /* it is there already, and keeps its length */
+    print_labels();
+    call(0, LAZY_LIST_REMOVE, 5, 0);
+    print_labels();
+    call(0, LAZY_LIST_CONTAINS, 5, 0);
+    call(0, LAZY_LIST_ADD, 0, 3);
+    call(0, LAZY_LIST_ADD, 65530, 6); /* key and length are at most 65,535 together */
     meet_at_head();
     run_schedule();
-    print_keys();
+    print_labels();
     return 0;
 }

@@ -10,10 +10,13 @@
  * The library is compiled for x86-64 Linux: some 12 kB of code that keeps nothing between calls, allocates nothing, takes less than 4 kB of
  * stack, and of the C library wants memset and memcpy alone.
  *
- * The arena, 8 + 8 W + 4 N words for W workers (1 to 8) and N nodes (3 to 1,024), counted from 0:
- *   header, 8 words    layout (1), W, N, place of the worker records (8), place of the node records (8 + 8 W), total (8 + 8 W + 4 N), 0, 0
- *   worker, 8 words    stage (0 to 25), operation (0 none), key, pred, curr, spare, answer (0 none), 0; pred, curr and spare are nodes
- *   node, 4 words      key, next, mark (0 unmarked, anything else marked), owner (0 nobody, otherwise worker + 1)
+ * The arena for W workers (1 to 8) and N nodes (3 to 1,024), its words counted from 0, in one of two layouts:
+ *   header, 8 words    layout (1 or 2), W, N, place of the worker records (8), place of the node records (8 + 8 W), total, 0, 0;
+ *                      the total is 8 + 8 W + 4 N in layout 1 and 8 + 8 W + 5 N in layout 2
+ *   worker, 8 words    stage (0 to 25), operation (0 none), key, pred, curr, spare, answer (0 none), length of the label that an open call
+ *                      adds (else 0); pred, curr and spare are nodes
+ *   node, 4 or 5 words key, next, mark (0 unmarked, anything else marked), owner (0 nobody, otherwise worker + 1), and in layout 2 the
+ *                      length of the label: 0 on a fresh arena, then that of the last add that took the node, also once it is removed
  * Node 0 is Head, node 1 is Tail, and 65,535 is no node. Words past the total are never touched.
  *
  * A reply is one number. Its lowest byte is 0, or the number of a refusal and then the whole reply; above it stand the report of a turn, one
@@ -29,22 +32,22 @@
 extern "C" {
 #endif
 
-/* Words of an arena. */
-#define LAZY_LIST_WORDS(workers, nodes) (8 + 8 * (size_t)(workers) + 4 * (size_t)(nodes))
+/* Words of an arena of layout 1 or 2. */
+#define LAZY_LIST_WORDS(layout, workers, nodes) (8 + 8 * (size_t)(workers) + ((layout) == 1 ? 4 : 5) * (size_t)(nodes))
 
 /* Refusals: the first that applies, in the order given at each function. */
 enum lazy_list_refusal {
     LAZY_LIST_ACCEPTED = 0,
-    LAZY_LIST_SHORT_ARENA = 1,    /* fewer than 8 words, or than word 5 says; in init and run, fewer than the counts need */
-    LAZY_LIST_ODD_HEADER = 2,     /* the first 8 words are not the header of some W and N */
+    LAZY_LIST_SHORT_ARENA = 1,    /* fewer than 8 words, or than word 5 says; in init and run, fewer than layout and counts need */
+    LAZY_LIST_ODD_HEADER = 2,     /* the first 8 words are not the header of some layout, W and N */
     LAZY_LIST_NO_SUCH_WORKER = 3, /* a worker number of W or more */
     LAZY_LIST_BUSY = 4,           /* the worker has a call that is not finished */
-    LAZY_LIST_BAD_CALL = 5,       /* an operation that is not 1 to 3, or key 0 or 65,535 */
+    LAZY_LIST_BAD_CALL = 5,       /* an operation that is not 1 to 3, key 0 or 65,535, or a length that the call may not have */
     LAZY_LIST_BROKEN_RECORD = 6,  /* a worker record that no turn can work on */
     LAZY_LIST_BROKEN_CHAIN = 7,   /* a link to no node, or, in a snapshot, keys that do not rise */
     LAZY_LIST_NO_ROOM = 8,        /* too few words lent for the keys, the calls or the waits */
-    LAZY_LIST_BAD_SCHEDULE = 9,   /* a length that is no multiple of 3, or above 12,000 words */
-    LAZY_LIST_BAD_COUNTS = 10     /* W or N out of range */
+    LAZY_LIST_BAD_SCHEDULE = 9,   /* a number of words that is no multiple of 4, or above 16,000 */
+    LAZY_LIST_BAD_COUNTS = 10     /* a layout that is not 1 or 2, or W or N out of range */
 };
 
 /* Operations of a call; keys are 1 to 65,534. */
@@ -61,11 +64,14 @@ enum lazy_list_answer { LAZY_LIST_YES = 1, LAZY_LIST_NO = 2, LAZY_LIST_FULL = 3 
 #define LAZY_LIST_VALUE(reply) ((reply) / 65536u % 65536u)
 #define LAZY_LIST_SECOND(reply) ((reply) / 4294967296u % 65536u)
 
-/* Lays a fresh arena: idle workers and an empty list. Words past its total stay. Refused with 10, 1. */
-uint64_t lazy_list_init(uint16_t *arena, size_t arena_length, uint16_t workers, uint16_t nodes);
+/* Lays a fresh arena of layout 1 or 2: idle workers and an empty list. Words past its total stay. Refused with 10, 1. */
+uint64_t lazy_list_init(uint16_t *arena, size_t arena_length, uint16_t layout, uint16_t workers, uint16_t nodes);
 
-/* Starts a call on an idle worker. Refused with 1, 2, 3, 6, 4, 5. */
-uint64_t lazy_list_start(uint16_t *arena, size_t arena_length, uint16_t worker, uint16_t operation, uint16_t key);
+/* Starts a call on an idle worker. In layout 2 an add has a label length, 1 to 65,534, and key and length together are at most 65,535; every
+ * other start, and every start in layout 1, has 0. Whether a key is stored goes by the key alone: an add of a stored key answers no, and
+ * the label keeps its length. Refused with 1, 2, 3, 6, 4, 5. */
+uint64_t lazy_list_start(uint16_t *arena, size_t arena_length, uint16_t worker, uint16_t operation, uint16_t key,
+                         uint16_t label_length);
 
 /* Gives a worker one turn: one step of its call, seen by all. A call is finished by the turn that reports LAZY_LIST_FINISHED. A turn that
  * waits changes nothing; it names the node it wants and the worker in the way, the node's owner word less 1. Refused with 1, 2, 3, 6, 7.
@@ -77,14 +83,16 @@ uint64_t lazy_list_turn(uint16_t *arena, size_t arena_length, uint16_t worker);
  * among them. Refused with 1, 2, 7, 8. */
 uint64_t lazy_list_snapshot(const uint16_t *arena, size_t arena_length, uint16_t *keys, size_t keys_length);
 
-/* Runs a schedule on an arena that it lays itself. An entry is three words: worker, act (0 turn, or an operation to start), key (not looked
- * at for a turn). A refused entry is counted and the run goes on. Entries are counted from 1; the history gets seven words for each
- * accepted start, in their order: worker, operation, key, start, point, finish, answer, where start, point and finish are numbers of
- * entries, 0 stands for what was not reached, and words past the records stay. It needs room for a record to each entry with act 1 to 3.
+/* Runs a schedule on an arena of layout 2 that it lays itself. An entry is four words: worker, act (0 turn, or an operation to start), key
+ * and label length (both not looked at for a turn). A refused entry is counted and the run goes on. Entries are counted from 1; the history
+ * gets seven words for each accepted start, in their order: worker, operation, key, start, point, finish, answer, where start, point and
+ * finish are numbers of entries, 0 stands for what was not reached, and words past the records stay. It needs room for a record to each
+ * entry with act 1 to 3.
  * The waits get four words for each turn that waited, in their order: the number of the call's record in the history (from 0), the number
  * of the entry, the node it wanted, the worker in the way, which is another, busy one. They need room for a record to each entry with act
  * 0, and words past the records stay. Both lengths are in words.
- * The totals are entries, refused, waits, calls. The calls in the order of their points are a run of a sequential set: that is proved.
+ * The totals are entries, refused, waits, calls. The calls in the order of their points are a run of a sequential set, which ends with the
+ * labels of the arena, keys and lengths: that is proved.
  * Refused with 10, 9, 1, 8. */
 uint64_t lazy_list_run(uint16_t *arena, size_t arena_length, uint16_t workers, uint16_t nodes, const uint16_t *schedule,
                        size_t schedule_length, uint16_t *history, size_t history_length, uint16_t *waits, size_t waits_length,
