@@ -16,8 +16,8 @@ const POINT: usize = 4;
 const FINISH: usize = 5;
 const CALL_ANSWER: usize = 6;
 
-/// Runs a schedule on an arena of layout 2 that it inits itself; history and waits are in flat words, and words
-/// past their records stay. Refusals 10, 9, 1, 8.
+/// Runs a schedule on an arena of layout 2 that it inits itself; history and waits are in flat
+/// words, and words past their records stay. Refusals 10, 9, 1, 8.
 pub fn run(
     arena: &mut [u16],
     workers: u16,

@@ -149,7 +149,8 @@ impl Style {
         }
     }
 
-    /// An entry with a bad worker, a bad key, a length at its limits or (most likely) a busy worker.
+    /// An entry with a bad worker, a bad key, a length at its limits, or (most likely) a busy
+    /// worker.
     fn odd_line(&self, rng: &mut Rng, script: &mut Script) {
         let workers = script.shape.workers;
         let worker = rng.word(0, workers - 1);

@@ -1,4 +1,5 @@
-//! Lengths and the two layouts, worked out by hand from document 02, and that wrong lengths are told.
+//! Lengths and the two layouts, worked out by hand from document 02, and that wrong lengths are
+//! told.
 
 use crate::arena::*;
 use crate::linearizable::explained;

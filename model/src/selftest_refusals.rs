@@ -139,10 +139,9 @@ fn order_of_start_and_turn(checks: &mut Checks, shape: Shape, words: usize) {
     };
     for (number, words, layout, worker, stage) in start_rows {
         let arena = spoiled(words, layout, stage);
-        for (operation, key, length) in [(4, 5, 0), (ADD, 0, 1), (ADD, 5, 65_535), (REMOVE, 5, 1)] {
-            refused(checks, "start", number, arena.clone(), |a| {
-                start(a, worker, operation, key, length)
-            });
+        for (act, key, length) in [(4, 5, 0), (ADD, 0, 1), (ADD, 5, 65_535), (REMOVE, 5, 1)] {
+            let call = |a: &mut [u16]| start(a, worker, act, key, length);
+            refused(checks, "start", number, arena.clone(), call);
         }
     }
     for (number, words, layout, worker, stage) in turn_rows {

@@ -39,6 +39,34 @@ const OPEN_DECIDED: &str = "unfinished calls with a point";
 const LATE: &str = "points before the deciding turn";
 const OVERTAKEN: &str = "overtaken look-ups (key back again)";
 
+/// What must be met besides kinds, damages and refused entries.
+const MET: [&str; 24] = [
+    SEQUENTIAL,
+    SEARCHED,
+    BAD_LINE,
+    BAD_LINE_0,
+    REFUSED_8,
+    BAD_LENGTH,
+    OTHER_LENGTH,
+    STORED_AGAIN,
+    WAITS,
+    WAITED_AGAIN,
+    WAITED_FOR_MORE,
+    NOT_LAST,
+    LATER_CALL,
+    BY_TURNS,
+    FOR_HEAD,
+    FOR_TAIL,
+    FOR_OTHERS,
+    RETRIES,
+    REUSED,
+    FULL,
+    OPEN,
+    OPEN_DECIDED,
+    LATE,
+    OVERTAKEN,
+];
+
 type Counts = BTreeMap<&'static str, u64>;
 
 pub struct Tally {
@@ -55,36 +83,10 @@ impl Tally {
     pub fn new() -> Tally {
         let damages = DAMAGES.iter().map(|(name, _)| *name).chain([SEVERAL]);
         let refused = ENTRY_REFUSED.map(|(name, _)| name);
-        let met = [
-            SEQUENTIAL,
-            SEARCHED,
-            BAD_LINE,
-            BAD_LINE_0,
-            REFUSED_8,
-            BAD_LENGTH,
-            OTHER_LENGTH,
-            STORED_AGAIN,
-            WAITS,
-            WAITED_AGAIN,
-            WAITED_FOR_MORE,
-            NOT_LAST,
-            LATER_CALL,
-            BY_TURNS,
-            FOR_HEAD,
-            FOR_TAIL,
-            FOR_OTHERS,
-            RETRIES,
-            REUSED,
-            FULL,
-            OPEN,
-            OPEN_DECIDED,
-            LATE,
-            OVERTAKEN,
-        ];
         Tally {
             kinds: Kind::ALL.iter().map(|kind| (kind.name(), 0)).collect(),
             bad_lines_by_damage: damages.map(|name| (name, 0)).collect(),
-            met: met
+            met: MET
                 .into_iter()
                 .chain(refused)
                 .map(|name| (name, 0))
