@@ -16,8 +16,8 @@ use Rattle.worker.specs.declared.report.Report.the-variants as report
 use Rattle.words.specs.Layout.{workersOf}
 use Rattle.words.specs.Records.{workerAt}
 use Rattle.words.proofs.Bounds.{counts}
-use Rattle.linear.specs.Sets.{setOf}
-use Rattle.linear.specs.Lists.{member, filter, timesFrom}
+use Rattle.linear.specs.Sets.{member, setOf}
+use Rattle.linear.specs.Lists.{filter, timesFrom}
 use Rattle.linear.specs.Entries.{Event, callStarted, turnReported, entryRefused, isStarted, isReported, isRefused, isWaits}
 use Rattle.linear.specs.History.{arenaAt, eventAt}
 use Rattle.linear.proofs.Times.{passing, passing-same, passing-count}
@@ -116,7 +116,7 @@ module _ (r : Schedule) where
       begins = ap isStarted event
 
       eighth : v < 8
-      eighth = omega (arith, counts (r .workers) (r .nodes) (r .good))
+      eighth = omega (arith, counts (r .layout) (r .workers) (r .nodes) (r .good))
 
       earlier : (origin : ℕ) (b : Begun r origin) → Open r origin b (suc now) → origin ≢ now → Open r origin b now
       earlier origin b o d = open-before r origin b now (omega (arith, o .begun)) o
@@ -250,7 +250,7 @@ module _ (r : Schedule) where
           = rw (own, o .same-operation, o .same-key, asks) in
           missed-at worker gone-key (suc now) (book .absent) (workersOf (arena r (suc now))) u
           (omega (arith, b .known, sound r (suc now) .workers-are))
-          (omega (arith, b .known, booked .times, counts (r .workers) (r .nodes) (r .good)))
+          (omega (arith, b .known, booked .times, counts (r .layout) (r .workers) (r .nodes) (r .good)))
           ∙ rw looks (missed-by gone-key gone origin b o asks)
 
     -- a turn that takes a key out moves, and is missed by those who look the key up
@@ -285,7 +285,7 @@ module _ (r : Schedule) where
         refusal (entryRefused number) is unstarted unreported = refusing number is same
     by-event (start event idle call known next) =
         subst (λ e. Booked (suc now) (nextBook (arena r now) (suc now) (entry r now) book e)) (sym event)
-        (starting event idle known (has-started r now (entry r now .worker) (entry r now .act) (entry r now .key) idle next))
+        (starting event idle known (has-started r now (entry r now .worker) (entry r now .act) (entry r now .key) (entry r now .length) idle next))
     by-event (turn step event row idle next) =
         subst (λ e. Booked (suc now) (nextBook (arena r now) (suc now) (entry r now) book e)) (sym event)
         (turning (step .report) event (turn-change r now step event row next))

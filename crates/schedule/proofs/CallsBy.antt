@@ -28,6 +28,7 @@ module _ (r : Schedule) where
         worker = v;
         operation = opening start .act;
         key = opening start .key;
+        length = opening start .length;
         start = start;
         point = pointOf (r .initial) (r .entries) (opening start) start decision answer;
         finish = finish;
@@ -59,6 +60,7 @@ module _ (r : Schedule) where
         worker = opening start .worker;
         operation = opening start .act;
         key = opening start .key;
+        length = opening start .length;
         start = start;
         point = 0;
         finish = 0;

@@ -4,7 +4,7 @@ use mathlib.Core.Path.{_≡_, refl, ap}
 use mathlib.Core.List.{List, [], _∷_}
 use mathlib.Core.Bool.{Bool, true, false, cond, and-false}
 use native.Mathlib.Nat.{suc-add}
-use native.Mathlib.Numerals.{add-one, add-two, add-three}
+use native.Mathlib.Numerals.{add-one, add-two, add-three, add-four}
 use native.Mathlib.Omega.{arith}
 use lib.ListN.{length, getD, drop}
 use lib.Seq.{drop-cons}
@@ -18,33 +18,37 @@ use Rattle.linear.specs.Lists.{filter}
 use Rattle.linear.proofs.ListLaws.{filter-shorter}
 use Rattle.schedule.specs.Run.{entryWidth, entryOf, entriesOf, countIn}
 
--- the three words from a place on, as an entry
+-- the four words from a place on, as an entry
 abbrev pub entryFrom : List ℕ → ℕ → Entry
-entryFrom schedule at = entryOf (getD schedule at 0) (getD schedule (at + 1) 0) (getD schedule (at + 2) 0)
+entryFrom schedule at =
+    entryOf (getD schedule at 0) (getD schedule (at + 1) 0) (getD schedule (at + 2) 0) (getD schedule (at + 3) 0)
 
-thrice : (k : ℕ) → 3 * suc k ≡ suc (suc (suc (3 * k)))
-thrice k = omega arith
+onward : (k : ℕ) → entryWidth * suc k ≡ suc (suc (suc (suc (entryWidth * k))))
+onward k = omega arith
 
--- entry k is words 3k, 3k + 1 and 3k + 2
-pub entry-at : (schedule : List ℕ) (k : ℕ) (default : Entry) → 3 * k + 2 < length schedule →
-    getD (entriesOf schedule) k default ≡ entryFrom schedule (3 * k)
+-- entry k is words 4k to 4k + 3
+pub entry-at : (schedule : List ℕ) (k : ℕ) (default : Entry) → entryWidth * k + 3 < length schedule →
+    getD (entriesOf schedule) k default ≡ entryFrom schedule (entryWidth * k)
 unfolding entriesOf
 entry-at [] k default h = absurd (omega arith)
 entry-at (worker ∷ []) k default h = absurd (omega arith)
 entry-at (worker ∷ act ∷ []) k default h = absurd (omega arith)
-entry-at (worker ∷ act ∷ key ∷ words) zero default h = refl
-entry-at (worker ∷ act ∷ key ∷ words) (suc k) default h = rw (thrice k) (simp suc-add (entry-at words k default (omega arith)))
+entry-at (worker ∷ act ∷ key ∷ []) k default h = absurd (omega arith)
+entry-at (worker ∷ act ∷ key ∷ cells ∷ words) zero default h = refl
+entry-at (worker ∷ act ∷ key ∷ cells ∷ words) (suc k) default h = rw (onward k) (simp suc-add (entry-at words k default (omega arith)))
 
 -- how many there are
 entries-fit : (schedule : List ℕ) →
-    (length (entriesOf schedule) * 3 ≤ length schedule) × (length schedule < length (entriesOf schedule) * 3 + 3)
+    (length (entriesOf schedule) * entryWidth ≤ length schedule)
+    × (length schedule < length (entriesOf schedule) * entryWidth + entryWidth)
 unfolding entriesOf
 entries-fit [] = (omega arith, omega arith)
 entries-fit (worker ∷ []) = (omega arith, omega arith)
 entries-fit (worker ∷ act ∷ []) = (omega arith, omega arith)
-entries-fit (worker ∷ act ∷ key ∷ words) = let others = entries-fit words in (omega arith, omega arith)
+entries-fit (worker ∷ act ∷ key ∷ []) = (omega arith, omega arith)
+entries-fit (worker ∷ act ∷ key ∷ cells ∷ words) = let others = entries-fit words in (omega arith, omega arith)
 
-pub entries-count : (schedule : List ℕ) → length schedule % entryWidth ≡ 0 → length (entriesOf schedule) * 3 ≡ length schedule
+pub entries-count : (schedule : List ℕ) → length schedule % entryWidth ≡ 0 → length (entriesOf schedule) * entryWidth ≡ length schedule
 entries-count schedule whole = let fit = entries-fit schedule in omega arith
 
 pub entries-quotient : (schedule : List ℕ) → length schedule % entryWidth ≡ 0 → length schedule / entryWidth ≡ length (entriesOf schedule)
@@ -55,40 +59,43 @@ pub count-few : (test : Entry → Bool) (schedule : List ℕ) → countIn test (
 unfolding countIn
 count-few test schedule = let fit = entries-fit schedule in omega (arith, filter-shorter test (entriesOf schedule))
 
--- the entries from a place on: the entry there, and then the others; none where no three words are left
-next-entry : (schedule : List ℕ) (at : ℕ) → at + 3 ≤ length schedule →
-    entriesOf (drop at schedule) ≡ entryFrom schedule at ∷ entriesOf (drop (at + 3) schedule)
+-- the entries from a place on: the entry there, and then the others; none where no four words are left
+next-entry : (schedule : List ℕ) (at : ℕ) → at + entryWidth ≤ length schedule →
+    entriesOf (drop at schedule) ≡ entryFrom schedule at ∷ entriesOf (drop (at + entryWidth) schedule)
 unfolding entriesOf
 next-entry schedule at h =
     rw (
+      add-four,
       add-three,
       add-two,
       add-one,
       drop-cons schedule at 0 (omega arith),
       drop-cons schedule (suc at) 0 (omega arith),
       drop-cons schedule (suc (suc at)) 0 (omega arith),
+      drop-cons schedule (suc (suc (suc at))) 0 (omega arith),
     )
 
-no-entry : (schedule : List ℕ) → length schedule < 3 → entriesOf schedule ≡ []
+no-entry : (schedule : List ℕ) → length schedule < entryWidth → entriesOf schedule ≡ []
 unfolding entriesOf
 no-entry [] h = refl
 no-entry (worker ∷ []) h = refl
 no-entry (worker ∷ act ∷ []) h = refl
-no-entry (worker ∷ act ∷ key ∷ words) h = absurd (omega arith)
+no-entry (worker ∷ act ∷ key ∷ []) h = refl
+no-entry (worker ∷ act ∷ key ∷ cells ∷ words) h = absurd (omega arith)
 
 -- those of them that pass a test
-module _ (test : Entry → Bool) (schedule : List ℕ) (at : ℕ) (h : at + 3 ≤ length schedule) where
+module _ (test : Entry → Bool) (schedule : List ℕ) (at : ℕ) (h : at + entryWidth ≤ length schedule) where
   pub one-more : test (entryFrom schedule at) ≡ true →
-      countIn test (entriesOf (drop at schedule)) ≡ suc (countIn test (entriesOf (drop (at + 3) schedule)))
+      countIn test (entriesOf (drop at schedule)) ≡ suc (countIn test (entriesOf (drop (at + entryWidth) schedule)))
   unfolding countIn filter
   one-more is = rw (next-entry schedule at h, is)
 
   pub no-more : test (entryFrom schedule at) ≡ false →
-      countIn test (entriesOf (drop at schedule)) ≡ countIn test (entriesOf (drop (at + 3) schedule))
+      countIn test (entriesOf (drop at schedule)) ≡ countIn test (entriesOf (drop (at + entryWidth) schedule))
   unfolding countIn filter
   no-more is = rw (next-entry schedule at h, is)
 
-pub none-left : (test : Entry → Bool) (schedule : List ℕ) → length schedule < 3 → countIn test (entriesOf schedule) ≡ 0
+pub none-left : (test : Entry → Bool) (schedule : List ℕ) → length schedule < entryWidth → countIn test (entriesOf schedule) ≡ 0
 unfolding countIn filter
 none-left test schedule h = rw (no-entry schedule h)
 
@@ -122,4 +129,4 @@ not-waits ((applies, number) ∷ refusals) = go applies (not-waits refusals)
 
 pub start-silent : (arena : List ℕ) (entry : Entry) → isTurn entry ≡ false → isWaits (eventOf arena entry) ≡ false
 unfolding eventOf
-start-silent arena entry starts = rw starts (not-waits (startRefusals arena (entry .worker) (entry .act) (entry .key)))
+start-silent arena entry starts = rw starts (not-waits (startRefusals arena (entry .worker) (entry .act) (entry .key) (entry .length)))

@@ -8,7 +8,7 @@ use lib.ListN.{length, length-map}
 use lib.Dec.{eqb, ltb}
 use borrow.Author.Tests.{ltb-true, ltb-false, eqb-true, not-false, lt-ltb, le-ltb}
 use Rattle.worker.specs.Refusals.{judged}
-use Rattle.words.specs.Layout.{layoutNumber, goodCounts, total}
+use Rattle.words.specs.Layout.{layout2, goodCounts, total}
 use Rattle.words.specs.Replies.{accepted, replied}
 use Rattle.arena.specs.Init.{freshWords}
 use Rattle.words.proofs.Judged.{none-holds}
@@ -24,18 +24,18 @@ neither false b e = (refl, e)
 
 -- a schedule that is not bad
 good-schedule : (schedule : List ℕ) → isBadSchedule schedule ≡ false →
-    (length schedule % entryWidth ≡ 0) × (length schedule ≤ 12000)
+    (length schedule % entryWidth ≡ 0) × (length schedule ≤ 16000)
 unfolding isBadSchedule
 good-schedule schedule good =
-    let parts = neither (not (eqb (length schedule % entryWidth) 0)) (ltb 12000 (length schedule)) good in
+    let parts = neither (not (eqb (length schedule % entryWidth) 0)) (ltb 16000 (length schedule)) good in
     (eqb-true _ _ (not-false _ (parts .0)), ltb-false _ _ (parts .1))
 
 -- what holds where a run is accepted
 pub record Accepted (arena : List ℕ) (workers nodes : ℕ) (schedule : List ℕ) (call-room wait-room : ℕ) : Type 0 where
-  pub counts : goodCounts workers nodes ≡ true
+  pub counts : goodCounts layout2 workers nodes ≡ true
   pub whole : length schedule % entryWidth ≡ 0
-  pub short : length schedule ≤ 12000
-  pub fits : total layoutNumber workers nodes ≤ length arena
+  pub short : length schedule ≤ 16000
+  pub fits : total layout2 workers nodes ≤ length arena
   pub calls-fit : countIn isOperation (entriesOf schedule) ≤ call-room
   pub waits-fit : countIn isTurn (entriesOf schedule) ≤ wait-room
 
@@ -97,13 +97,13 @@ module _ (arena : List ℕ) (workers nodes : ℕ) (schedule : List ℕ) (call-ro
 
 -- as many calls and waits are told as there are records
 pub told-calls : (workers nodes : ℕ) (schedule : List ℕ) →
-    totals (freshWords workers nodes) (entriesOf schedule) .calls ≡ length (recordsOf workers nodes schedule)
+    totals (freshWords layout2 workers nodes) (entriesOf schedule) .calls ≡ length (recordsOf workers nodes schedule)
 unfolding totals recordsOf
-told-calls workers nodes schedule = sym (length-map (calls (freshWords workers nodes) (entriesOf schedule)) recordOf)
+told-calls workers nodes schedule = sym (length-map (calls (freshWords layout2 workers nodes) (entriesOf schedule)) recordOf)
 
 pub told-waits : (workers nodes : ℕ) (schedule : List ℕ) →
-    totals (freshWords workers nodes) (entriesOf schedule) .waits ≡ length (waitsOf workers nodes schedule)
+    totals (freshWords layout2 workers nodes) (entriesOf schedule) .waits ≡ length (waitsOf workers nodes schedule)
 unfolding waitsOf
 told-waits workers nodes schedule =
-    waits-counted (freshWords workers nodes) (entriesOf schedule)
-    ∙ sym (length-map (waits (freshWords workers nodes) (entriesOf schedule)) waitOf)
+    waits-counted (freshWords layout2 workers nodes) (entriesOf schedule)
+    ∙ sym (length-map (waits (freshWords layout2 workers nodes) (entriesOf schedule)) waitOf)

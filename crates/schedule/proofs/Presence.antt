@@ -13,10 +13,11 @@ use borrow.Author.Tests.{eq-eqb, ne-eqb}
 use Rattle.worker.specs.Node.{head, tail}
 use Rattle.words.specs.Layout.{word, nodesOf, nodeWidth, nodePart}
 use Rattle.words.specs.Records.{nodeAt}
-use Rattle.linear.specs.Lists.{filter, member}
-use Rattle.linear.specs.Sets.{nodeIn, isUnmarked, ChainWhole, chainOf, setOf}
+use Rattle.linear.specs.Lists.{filter}
+use Rattle.linear.specs.Sets.{Label, member, nodeIn, isUnmarked, labelIn, ChainWhole, chainOf, setOf}
 use Rattle.linear.proofs.ListLaws.{from-filter, from-map}
-use Rattle.linear.proofs.SetLaws.{keyOf, nextOf, Walked, ended, passed, walked-above, whole-walked, from-member}
+use Rattle.linear.proofs.LabelLaws.{present-find, from-find}
+use Rattle.linear.proofs.SetLaws.{keyOf, nextOf, Walked, ended, passed, walked-above, whole-walked}
 
 or-false : (a : Bool) → (a || false) ≡ a
 or-false true = refl
@@ -38,15 +39,16 @@ read-in arena f t w l node = rw (f, t, w, l)
 module _ (arena : List ℕ) (key : ℕ) where
   -- the key is the key of an unmarked one of some nodes
   abbrev among : List ℕ → Bool
-  among nodes = member key (map (keyOf arena) (filter (isUnmarked arena) nodes))
+  among nodes = member key (map (labelIn arena) (filter (isUnmarked arena) nodes))
 
   -- not where all keys are above it
   not-among : (nodes : List ℕ) → ((node : ℕ) → List·Memᴰ node nodes → key < keyOf arena node) → among nodes ≡ false
   not-among nodes above =
       eq-false-eq-not-eq-true (among nodes) .0
       (λ there.
-      let found = from-map (keyOf arena) {xs = filter (isUnmarked arena) nodes} (from-member key _ there) in
-      omega (arith, found .2, above (found .0) (from-filter (isUnmarked arena) (found .1) .0)))
+      let it = present-find key (map (labelIn arena) (filter (isUnmarked arena) nodes)) there in
+      let found = from-map (labelIn arena) {xs = filter (isUnmarked arena) nodes} (from-find key (it .0) _ (it .1)) in
+      omega (arith, ap (λ (label : Label). label .key) (found .2), above (found .0) (from-filter (isUnmarked arena) (found .1) .0)))
 
   -- the first of some nodes has the key or not, and then the others
   among-first : (node : ℕ) (nodes : List ℕ) →
@@ -55,7 +57,7 @@ module _ (arena : List ℕ) (key : ℕ) where
   among-first node nodes = go (isUnmarked arena node)
     where
       go : (unmarked : Bool) →
-          member key (map (keyOf arena) (cond unmarked (node ∷ filter (isUnmarked arena) nodes) (filter (isUnmarked arena) nodes)))
+          member key (map (labelIn arena) (cond unmarked (node ∷ filter (isUnmarked arena) nodes) (filter (isUnmarked arena) nodes)))
           ≡ ((eqb key (keyOf arena node) && unmarked) || among nodes)
       go true = and-true (eqb key (keyOf arena node))
         where

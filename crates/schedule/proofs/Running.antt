@@ -4,14 +4,15 @@ use mathlib.Core.Path.{_≡_, refl, sym, ap, subst, _∙_}
 use mathlib.Core.Logic.{⊎-elim}
 use mathlib.Core.List.{List, [], _∷_, _++_, map, map-map, append-nil, flatten}
 use mathlib.Core.Bool.{Bool, true, false, cond, true≢false}
-use mathlib.Mathlib.Data.Bool.Basic.{and-elim-left, dichotomy}
+use mathlib.Mathlib.Data.Bool.Basic.{dichotomy}
 use native.Mathlib.Omega.{arith}
 use native.Mathlib.Numerals.{add-one, sub-one}
 use lib.ListN.{length, getD, take, drop, length-map, length-append, take-append-drop, drop-of-length-le}
 use lib.Seq.{take-suc}
 use borrow.Author.Tests.{le-ltb}
+use Rattle.worker.proofs.Laws.{call-parts}
 use Rattle.worker.proofs.RefusalLaws.{none-accepts}
-use Rattle.words.specs.Layout.{layoutNumber, goodCounts, total}
+use Rattle.words.specs.Layout.{layout2, goodCounts, total}
 use Rattle.words.specs.Replies.{refused, accepted, replied}
 use Rattle.words.specs.Header.{headerRefusals}
 use Rattle.arena.specs.Init.{freshWords, initRefusals, initArena}
@@ -20,13 +21,13 @@ use Rattle.linear.specs.Entries.{Entry, isTurn, isStarted, isRefused, isWaits, 
 use Rattle.linear.specs.History.{entryAt, arenaAt, eventAt, callAt, calls, waitAt, waits as waits-of, totals}
 use Rattle.linear.proofs.Times.{passing, passing-count, filter-append, map-same}
 use Rattle.linear.proofs.Members.{whole}
-use Rattle.linear.proofs.Timeline.{freshSchedule, Schedule, Happens, nothing, start, turn, happens, arena, entry, outcome-is, starts-at, sound, always, last}
+use Rattle.linear.proofs.Timeline.{freshSchedule, Schedule, Happens, nothing, start, turn, happens, arena, state, entry, outcome-is, starts-at, sound, always, last}
 use Rattle.linear.proofs.Waiting.{starts}
 use Rattle.schedule.specs.declared.book.Book.{Book}
 use Rattle.schedule.specs.Run.{entryWidth, entryOf, entriesOf, isOperation, countIn, recordOf, recordsOf, waitOf, waitsOf, told, totalsOf}
 use Rattle.schedule.specs.Run.{callWidth, callWords, waitWidth, waitWords, flatWords}
 use Rattle.schedule.specs.Book.{newBook, isBroken, Roomy, bookAfter, callsAfter, waitsAfter}
-use Rattle.schedule.proofs.EntryLaws.{entry-at, entries-count, start-silent}
+use Rattle.schedule.proofs.EntryLaws.{entryFrom, entry-at, entries-count, start-silent}
 use Rattle.schedule.proofs.Flat.{calls-stand, waits-stand, flat-length}
 use Rattle.schedule.proofs.CallsBy.{call-last}
 use Rattle.schedule.proofs.Booked.{Booked, booked-first, booked-next}
@@ -35,7 +36,7 @@ use Rattle.schedule.proofs.Kept.{calls-next}
 use Rattle.schedule.proofs.KeptWaits.{waiting-at, wait-at, held-waits, waits-next}
 
 abbrev nobody : Entry
-nobody = record { worker = 0; act = 0; key = 0 }
+nobody = record { worker = 0; act = 0; key = 0; length = 0 }
 
 -- no more times pass than there are
 passing-few : (test : ℕ → Bool) (now : ℕ) → length (passing test now) ≤ now
@@ -103,7 +104,7 @@ module _ (r : Schedule) where
     where
       go : Happens r now → isOperation (entry r now) ≡ true
       go (nothing unstarted unreported unfinished same) = absurd (true≢false (sym starting ∙ unstarted))
-      go (start event idle call known next) = and-elim-left _ _ call
+      go (start event idle call known next) = call-parts (state r now .lengths) (entry r now .act) (entry r now .key) (entry r now .length) call .0
       go (turn step event row idle next) = absurd (true≢false (sym starting ∙ ap isStarted event))
 
   turns-then : (now : ℕ) → waiting-at r (suc now) ≡ true → isTurn (entry r now) ≡ true
@@ -113,32 +114,32 @@ module _ (r : Schedule) where
       starts-silent starts = ap isWaits (outcome-is r now) ∙ start-silent (arena r now) (entry r now) starts
 
 module _ (workers nodes : ℕ) (schedule lent lent-waits : List ℕ) where
-  abbrev run : goodCounts workers nodes ≡ true → Schedule
-  run good = freshSchedule workers nodes (entriesOf schedule) good
+  abbrev run : goodCounts layout2 workers nodes ≡ true → Schedule
+  run good = freshSchedule layout2 workers nodes (entriesOf schedule) good
 
   -- what holds between two entries
   pub record Running (done : ℕ) (book : Book) (words history waits : List ℕ) : Type 0 where
-    pub good : goodCounts workers nodes ≡ true
+    pub good : goodCounts layout2 workers nodes ≡ true
     pub past : done ≤ length (entriesOf schedule)
-    pub arena-is : words ≡ arenaAt (freshWords workers nodes) (entriesOf schedule) done
+    pub arena-is : words ≡ arenaAt (freshWords layout2 workers nodes) (entriesOf schedule) done
     pub booked : Booked (run good) done book
     pub history-is : history ≡ held (run good) lent done
     pub waits-are : waits ≡ held-waits (run good) lent-waits done
 
   -- a fresh arena in just its words, and no entry made
-  laid : (words : List ℕ) → goodCounts workers nodes ≡ true → length words ≡ total layoutNumber workers nodes →
-      initArena words workers nodes ≡ freshWords workers nodes
+  laid : (words : List ℕ) → goodCounts layout2 workers nodes ≡ true → length words ≡ total layout2 workers nodes →
+      initArena words layout2 workers nodes ≡ freshWords layout2 workers nodes
   unfolding initArena initRefusals
   laid words good just =
       rw (
         good,
-        le-ltb (length words) (total layoutNumber workers nodes) (omega arith),
-        drop-of-length-le words {i = total layoutNumber workers nodes} (omega arith),
+        le-ltb (length words) (total layout2 workers nodes) (omega arith),
+        drop-of-length-le words {i = total layout2 workers nodes} (omega arith),
       )
-      (append-nil (freshWords workers nodes))
+      (append-nil (freshWords layout2 workers nodes))
 
-  pub begins : (words : List ℕ) → goodCounts workers nodes ≡ true → length words ≡ total layoutNumber workers nodes →
-      Running 0 newBook (initArena words workers nodes) lent lent-waits
+  pub begins : (words : List ℕ) → goodCounts layout2 workers nodes ≡ true → length words ≡ total layout2 workers nodes →
+      Running 0 newBook (initArena words layout2 workers nodes) lent lent-waits
   unfolding arenaAt filter timesFrom flatten
   begins words good just =
       record {
@@ -160,7 +161,7 @@ module _ (workers nodes : ℕ) (schedule lent lent-waits : List ℕ) where
       next = entry r done
 
       abbrev read : Entry
-      read = entryOf (getD schedule (3 * done) 0) (getD schedule (3 * done + 1) 0) (getD schedule (3 * done + 2) 0)
+      read = entryFrom schedule (entryWidth * done)
 
       next-is : length schedule % entryWidth ≡ 0 → next ≡ read
       unfolding entryAt
@@ -170,8 +171,8 @@ module _ (workers nodes : ℕ) (schedule lent lent-waits : List ℕ) where
       roomy : length (entriesOf schedule) ≤ 4000 → Roomy book
       roomy few =
           let calls = passing-few (starts-at r) done in
-          let refusals = passing-few (λ time. isRefused (eventAt (freshWords workers nodes) (entriesOf schedule) time)) done in
-          let waits-few = passing-few (λ time. isWaits (eventAt (freshWords workers nodes) (entriesOf schedule) time)) done in (
+          let refusals = passing-few (λ time. isRefused (eventAt (freshWords layout2 workers nodes) (entriesOf schedule) time)) done in
+          let waits-few = passing-few (λ time. isWaits (eventAt (freshWords layout2 workers nodes) (entriesOf schedule) time)) done in (
             omega (arith, now .booked .calls-are),
             omega (arith, now .booked .refused-are),
             omega (arith, now .booked .waits-are),
@@ -209,7 +210,7 @@ module _ (workers nodes : ℕ) (schedule lent lent-waits : List ℕ) where
 
       -- in the words of the code
       module _ (whole-entries : length schedule % entryWidth ≡ 0) where
-        pub may-enter : length schedule ≤ 12000 →
+        pub may-enter : length schedule ≤ 16000 →
             Roomy book × ((accepted [] ≡ replied (headerRefusals (after words read)) []) × (isBroken (after words read) ≡ false))
         may-enter few = (
           roomy (omega (arith, entries-count schedule whole-entries)),
@@ -246,9 +247,9 @@ module _ (workers nodes : ℕ) (schedule lent lent-waits : List ℕ) where
       where
         same : map (recordBy whole-run (last whole-run)) (starts whole-run (last whole-run)) ≡ recordsOf workers nodes schedule
         same =
-            map-same (recordBy whole-run (last whole-run)) (λ x. recordOf (callAt (freshWords workers nodes) (entriesOf schedule) x))
+            map-same (recordBy whole-run (last whole-run)) (λ x. recordOf (callAt (freshWords layout2 workers nodes) (entriesOf schedule) x))
             (starts whole-run (last whole-run)) (λ x m. ap recordOf (call-last whole-run x))
-            ∙ sym (map-map recordOf (callAt (freshWords workers nodes) (entriesOf schedule)) (starts whole-run (last whole-run)))
+            ∙ sym (map-map recordOf (callAt (freshWords layout2 workers nodes) (entriesOf schedule)) (starts whole-run (last whole-run)))
 
         counts : length (recordsOf workers nodes schedule) ≡ length (starts whole-run (last whole-run))
         counts = ap length (sym same) ∙ length-map (starts whole-run (last whole-run)) (recordBy whole-run (last whole-run))
@@ -258,14 +259,14 @@ module _ (workers nodes : ℕ) (schedule lent lent-waits : List ℕ) where
     waits-end =
         let times = passing (waiting-at whole-run) (last whole-run) in
         let same : map (wait-at whole-run) times ≡ waitsOf workers nodes schedule
-        = sym (map-map waitOf (waitAt (freshWords workers nodes) (entriesOf schedule)) times) in
+        = sym (map-map waitOf (waitAt (freshWords layout2 workers nodes) (entriesOf schedule)) times) in
         end .waits-are
         ∙ ap (λ n. flatWords waitWords (map (wait-at whole-run) times) ++ drop n lent-waits)
         (ap (λ n. waitWidth * n) (sym (length-map times (wait-at whole-run))) ∙ sym (flat-length waits-stand (map (wait-at whole-run) times)))
         ∙ ap (λ records. told (flatWords waitWords records) lent-waits) same
 
     pub totals-end : record { entries = length (entriesOf schedule); refused = book .refused; waits = book .waits; calls = book .calls }
-        ≡ totalsOf (totals (freshWords workers nodes) (entriesOf schedule))
+        ≡ totalsOf (totals (freshWords layout2 workers nodes) (entriesOf schedule))
     unfolding totals calls
     totals-end =
         let booked = end .booked in
@@ -278,9 +279,9 @@ module _ (workers nodes : ℕ) (schedule lent lent-waits : List ℕ) where
         }
 
 -- no more records than entries that ask for them
-module _ (workers nodes : ℕ) (schedule : List ℕ) (good : goodCounts workers nodes ≡ true) where
+module _ (workers nodes : ℕ) (schedule : List ℕ) (good : goodCounts layout2 workers nodes ≡ true) where
   abbrev all-entries : Schedule
-  all-entries = freshSchedule workers nodes (entriesOf schedule) good
+  all-entries = freshSchedule layout2 workers nodes (entriesOf schedule) good
 
   pub calls-few : length (recordsOf workers nodes schedule) ≤ countIn isOperation (entriesOf schedule)
   unfolding recordsOf calls

@@ -69,7 +69,7 @@ module _ (r : Schedule) where
       others x m other =
           let b = begun-of now x m in
           rw (b .1)
-          (ap recordOf
+          (ap recordOf {x = callBy r (suc now) (suc (b .0))} {y = callBy r now (suc (b .0))}
           (elim (ℕ-discrete (entry r now .worker) (entry r (b .0) .worker)) [
             | no d ↦ still now (b .0) (b .3) (not-finished r _ now (inr d)) (not-decided r _ now (inr d))
             | yes e ↦

@@ -1,4 +1,4 @@
--- run (document 01: run a schedule on a board that it lays itself; document 02, A1: and write its waits).
+-- run (document 01: run a schedule on a board that it lays itself; document 02, A1: and write its waits, A2: of layout 2).
 use Prim.Native.Nat.{ℕ, _/_, _%_}
 use mathlib.Core.List.{List, [], _∷_, _++_, map, flatten}
 use mathlib.Core.Bool.{Bool, not, _||_}
@@ -6,7 +6,7 @@ use lib.ListN.{length, drop}
 use lib.Dec.{ltb, eqb}
 use Rattle.worker.specs.Worker.{add, contains, within}
 use Rattle.worker.specs.Refusals.{Refusal, judged, badCounts, badSchedule, shortArena, noRoom}
-use Rattle.words.specs.Layout.{layoutNumber, goodCounts, total}
+use Rattle.words.specs.Layout.{layout2, goodCounts, total}
 use Rattle.words.specs.Replies.{Reply, refused, accepted, replied, written}
 use Rattle.arena.specs.Init.{freshWords}
 use Rattle.linear.specs.Lists.{filter}
@@ -19,19 +19,20 @@ use Rattle.schedule.specs.declared.Totals.{Totals}
 use Rattle.schedule.specs.declared.Summary.{Summary}
 use Rattle.schedule.specs.declared.Summary.the-variants as summary
 
--- entries are three words: worker, act, key
+-- entries are four words: worker, act, key, length
 abbrev pub entryWidth : ℕ
-entryWidth = 3
+entryWidth = 4
 
-abbrev pub entryOf : ℕ → ℕ → ℕ → Entry
-entryOf worker act key = record { worker = worker; act = act; key = key }
+abbrev pub entryOf : ℕ → ℕ → ℕ → ℕ → Entry
+entryOf worker act key cells = record { worker = worker; act = act; key = key; length = cells }
 
 -- the entries of a schedule; words that are no whole entry are none
 unfoldable pub entriesOf : List ℕ → List Entry
 entriesOf [] = []
 entriesOf (worker ∷ []) = []
 entriesOf (worker ∷ act ∷ []) = []
-entriesOf (worker ∷ act ∷ key ∷ words) = entryOf worker act key ∷ entriesOf words
+entriesOf (worker ∷ act ∷ key ∷ []) = []
+entriesOf (worker ∷ act ∷ key ∷ cells ∷ words) = entryOf worker act key cells ∷ entriesOf words
 
 -- the entries with act 1 to 3, and those with act 0: as many calls may be started, and as many turns may wait
 abbrev pub isOperation : Entry → Bool
@@ -40,16 +41,16 @@ isOperation entry = within add contains (entry .act)
 unfoldable pub countIn : (Entry → Bool) → List Entry → ℕ
 countIn test entries = length (filter test entries)
 
--- bad schedule: a length that is not a multiple of 3, or above 12,000 words
+-- bad schedule: a length that is not a multiple of 4, or above 16,000 words
 unfoldable pub isBadSchedule : List ℕ → Bool
-isBadSchedule schedule = not (eqb (length schedule % entryWidth) 0) || ltb 12000 (length schedule)
+isBadSchedule schedule = not (eqb (length schedule % entryWidth) 0) || ltb 16000 (length schedule)
 
--- order: 10, 9, 1, 8; `callRoom` and `waitRoom` are the numbers of records that are lent for calls and for waits
+-- a run lays layout 2. Order: 10, 9, 1, 8; `callRoom` and `waitRoom` are the numbers of records that are lent for calls and for waits
 unfoldable pub runRefusals : List ℕ → ℕ → ℕ → List ℕ → ℕ → ℕ → List Refusal
 runRefusals arena workers nodes schedule callRoom waitRoom =
-    (not (goodCounts workers nodes), badCounts)
+    (not (goodCounts layout2 workers nodes), badCounts)
     ∷ (isBadSchedule schedule, badSchedule)
-    ∷ (ltb (length arena) (total layoutNumber workers nodes), shortArena)
+    ∷ (ltb (length arena) (total layout2 workers nodes), shortArena)
     ∷ (ltb callRoom (countIn isOperation (entriesOf schedule)), noRoom)
     ∷ (ltb waitRoom (countIn isTurn (entriesOf schedule)), noRoom)
     ∷ []
@@ -57,7 +58,7 @@ runRefusals arena workers nodes schedule callRoom waitRoom =
 -- the run returns entries, refused, waits, calls: the totals of the list of its entries on the arena it lays
 unfoldable pub runAnswer : List ℕ → ℕ → ℕ → List ℕ → ℕ → ℕ → Reply
 runAnswer arena workers nodes schedule callRoom waitRoom =
-    let totals = history.totals (freshWords workers nodes) (entriesOf schedule) in
+    let totals = history.totals (freshWords layout2 workers nodes) (entriesOf schedule) in
     replied (runRefusals arena workers nodes schedule callRoom waitRoom)
     (totals .entries ∷ totals .refused ∷ totals .waits ∷ totals .calls ∷ [])
 
@@ -66,7 +67,7 @@ unfoldable pub runArena : List ℕ → ℕ → ℕ → List ℕ → ℕ → ℕ 
 runArena arena workers nodes schedule callRoom waitRoom =
     let entries = entriesOf schedule in
     written (runRefusals arena workers nodes schedule callRoom waitRoom) arena
-    (history.arenaAt (freshWords workers nodes) entries (length entries) ++ drop (total layoutNumber workers nodes) arena)
+    (history.arenaAt (freshWords layout2 workers nodes) entries (length entries) ++ drop (total layout2 workers nodes) arena)
 
 -- the history: a record for each call, in order of start
 abbrev pub recordOf : history.Call → Call
@@ -82,14 +83,14 @@ recordOf call =
     }
 
 unfoldable pub recordsOf : ℕ → ℕ → List ℕ → List Call
-recordsOf workers nodes schedule = map recordOf (history.calls (freshWords workers nodes) (entriesOf schedule))
+recordsOf workers nodes schedule = map recordOf (history.calls (freshWords layout2 workers nodes) (entriesOf schedule))
 
 -- the waits: a record for each turn that waits, by time
 abbrev pub waitOf : history.Wait → Wait
 waitOf wait = record { call = wait .call; time = wait .time; node = wait .node; worker = wait .worker }
 
 unfoldable pub waitsOf : ℕ → ℕ → List ℕ → List Wait
-waitsOf workers nodes schedule = map waitOf (history.waits (freshWords workers nodes) (entriesOf schedule))
+waitsOf workers nodes schedule = map waitOf (history.waits (freshWords layout2 workers nodes) (entriesOf schedule))
 
 -- a row that the caller lends: what is told stands first, and the rest stays; a refusal leaves all of it
 abbrev pub told : {A : Type 0} → List A → List A → List A
@@ -147,5 +148,5 @@ summaryReply (summary.Refused number) = refused number
 
 -- demand 3, of a run that is done
 abbrev pub DoneLinearizable : Summary → ℕ → ℕ → List ℕ → Type 0
-DoneLinearizable (summary.Done totals) workers nodes schedule = Linearizable (freshWords workers nodes) (entriesOf schedule)
+DoneLinearizable (summary.Done totals) workers nodes schedule = Linearizable (freshWords layout2 workers nodes) (entriesOf schedule)
 DoneLinearizable (summary.Refused number) workers nodes schedule = Unit {0}

@@ -102,7 +102,7 @@ fn enter_move(
     next
 }
 
-// Its key is not looked at.
+// Its key and length are not looked at.
 fn enter_turn(
     arena: &mut [u16],
     history: &mut [u16],
@@ -112,12 +112,12 @@ fn enter_turn(
     worker: u16,
 ) -> Book
     requires { ⌜ Roomy book ⌝ }
-    ensures words { λ _. ⌜ ((key : ℕ) → now (arena .exit) ≡ after (now (arena .entry)) (entryOf worker 0 key)) ⌝ }
-    ensures calls { λ _. ⌜ ((key : ℕ) →
-        now (history .exit) ≡ callsAfter (now (arena .entry)) time (entryOf worker 0 key) book (now (history .entry))) ⌝ }
-    ensures waits { λ _. ⌜ ((key : ℕ) →
-        now (waits .exit) ≡ waitsAfter (now (arena .entry)) time (entryOf worker 0 key) book (now (waits .entry))) ⌝ }
-    ensures books { λ r. ⌜ ((key : ℕ) → r ≡ bookAfter (now (arena .entry)) time (entryOf worker 0 key) book) ⌝ }
+    ensures words { λ _. ⌜ ((key cells : ℕ) → now (arena .exit) ≡ after (now (arena .entry)) (entryOf worker 0 key cells)) ⌝ }
+    ensures calls { λ _. ⌜ ((key cells : ℕ) →
+        now (history .exit) ≡ callsAfter (now (arena .entry)) time (entryOf worker 0 key cells) book (now (history .entry))) ⌝ }
+    ensures waits { λ _. ⌜ ((key cells : ℕ) →
+        now (waits .exit) ≡ waitsAfter (now (arena .entry)) time (entryOf worker 0 key cells) book (now (waits .entry))) ⌝ }
+    ensures books { λ r. ⌜ ((key cells : ℕ) → r ≡ bookAfter (now (arena .entry)) time (entryOf worker 0 key cells) book) ⌝ }
 {
     let before = records::read_worker(arena, worker);
     match lazy::turn(arena, worker) {
@@ -167,19 +167,20 @@ fn enter_start(
     worker: u16,
     act: u16,
     key: u16,
+    length: u16,
 ) -> Book
     requires { ⌜ act ≢ 0 ⌝ }
     requires { ⌜ Roomy book ⌝ }
-    requires { ⌜ accepted [] ≡ replied (headerRefusals (after (now arena) (entryOf worker act key))) [] ⌝ }
-    requires { ⌜ isBroken (after (now arena) (entryOf worker act key)) ≡ false ⌝ }
-    ensures words { λ _. ⌜ now (arena .exit) ≡ after (now (arena .entry)) (entryOf worker act key) ⌝ }
+    requires { ⌜ accepted [] ≡ replied (headerRefusals (after (now arena) (entryOf worker act key length))) [] ⌝ }
+    requires { ⌜ isBroken (after (now arena) (entryOf worker act key length)) ≡ false ⌝ }
+    ensures words { λ _. ⌜ now (arena .exit) ≡ after (now (arena .entry)) (entryOf worker act key length) ⌝ }
     ensures calls { λ _. ⌜ now (history .exit)
-        ≡ callsAfter (now (arena .entry)) time (entryOf worker act key) book (now (history .entry)) ⌝ }
+        ≡ callsAfter (now (arena .entry)) time (entryOf worker act key length) book (now (history .entry)) ⌝ }
     ensures waits { λ _. ⌜ ((waits : List ℕ) →
-        waits ≡ waitsAfter (now (arena .entry)) time (entryOf worker act key) book waits) ⌝ }
-    ensures books { λ r. ⌜ r ≡ bookAfter (now (arena .entry)) time (entryOf worker act key) book ⌝ }
+        waits ≡ waitsAfter (now (arena .entry)) time (entryOf worker act key length) book waits) ⌝ }
+    ensures books { λ r. ⌜ r ≡ bookAfter (now (arena .entry)) time (entryOf worker act key length) book ⌝ }
 {
-    match arena::start(arena, worker, act, key) {
+    match arena::start(arena, worker, act, key, length) {
         Verdict::Refused(_) => book.refuse(),
         Verdict::Accepted => {
             calls::write_call(history, book.calls, Call::new(worker, act, key, time));
@@ -197,19 +198,20 @@ pub(crate) fn enter(
     worker: u16,
     act: u16,
     key: u16,
+    length: u16,
 ) -> Book
     requires { ⌜ Roomy book ⌝ }
-    requires { ⌜ accepted [] ≡ replied (headerRefusals (after (now arena) (entryOf worker act key))) [] ⌝ }
-    requires { ⌜ isBroken (after (now arena) (entryOf worker act key)) ≡ false ⌝ }
-    ensures words { λ _. ⌜ now (arena .exit) ≡ after (now (arena .entry)) (entryOf worker act key) ⌝ }
+    requires { ⌜ accepted [] ≡ replied (headerRefusals (after (now arena) (entryOf worker act key length))) [] ⌝ }
+    requires { ⌜ isBroken (after (now arena) (entryOf worker act key length)) ≡ false ⌝ }
+    ensures words { λ _. ⌜ now (arena .exit) ≡ after (now (arena .entry)) (entryOf worker act key length) ⌝ }
     ensures calls { λ _. ⌜ now (history .exit)
-        ≡ callsAfter (now (arena .entry)) time (entryOf worker act key) book (now (history .entry)) ⌝ }
+        ≡ callsAfter (now (arena .entry)) time (entryOf worker act key length) book (now (history .entry)) ⌝ }
     ensures waits { λ _. ⌜ now (waits .exit)
-        ≡ waitsAfter (now (arena .entry)) time (entryOf worker act key) book (now (waits .entry)) ⌝ }
-    ensures books { λ r. ⌜ r ≡ bookAfter (now (arena .entry)) time (entryOf worker act key) book ⌝ }
+        ≡ waitsAfter (now (arena .entry)) time (entryOf worker act key length) book (now (waits .entry)) ⌝ }
+    ensures books { λ r. ⌜ r ≡ bookAfter (now (arena .entry)) time (entryOf worker act key length) book ⌝ }
 {
     if act == verdict::TURN {
         return enter_turn(arena, history, waits, book, time, worker);
     }
-    enter_start(arena, history, book, time, worker, act, key)
+    enter_start(arena, history, book, time, worker, act, key, length)
 }

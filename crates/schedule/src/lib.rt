@@ -3,7 +3,7 @@ ghost use mathlib.Core.Path.{_≡_};
 ghost use mathlib.Core.Bool.{true};
 ghost use Prim.Native.Nat.{_*_, _/_, _%_, _≤_};
 ghost use lib.ListN.{length};
-ghost use Rattle.words.specs.Layout.{layoutNumber, goodCounts, total};
+ghost use Rattle.words.specs.Layout.{layout2, goodCounts, total};
 ghost use Rattle.arena.specs.Init.{freshWords};
 ghost use Rattle.linear.specs.Entries.{isTurn};
 ghost use Rattle.linear.specs.History.{totals, arenaAt};
@@ -83,7 +83,7 @@ pub fn run(
     if let Verdict::Refused(number) = verdict {
         return Summary::Refused(number);
     }
-    let end = layout::total(layout::LAYOUT, workers, nodes);
+    let end = layout::total(layout::LAYOUT_2, workers, nodes);
     Summary::Done(run_entries(&mut arena[0..end], workers, nodes, schedule, history, waits))
 }
 
@@ -96,21 +96,21 @@ fn run_entries(
     history: &mut [u16],
     waits: &mut [u16],
 ) -> Totals
-    requires { ⌜ goodCounts workers nodes ≡ true ⌝ }
-    requires { ⌜ length (now arena) ≡ total layoutNumber workers nodes ⌝ }
+    requires { ⌜ goodCounts layout2 workers nodes ≡ true ⌝ }
+    requires { ⌜ length (now arena) ≡ total layout2 workers nodes ⌝ }
     requires { ⌜ length (now schedule) % entryWidth ≡ 0 ⌝ }
-    requires { ⌜ length (now schedule) ≤ 12000 ⌝ }
+    requires { ⌜ length (now schedule) ≤ 16000 ⌝ }
     requires { ⌜ callWidth * countIn isOperation (entriesOf (now schedule)) ≤ length (now history) ⌝ }
     requires { ⌜ waitWidth * countIn isTurn (entriesOf (now schedule)) ≤ length (now waits) ⌝ }
     ensures words { λ _. ⌜ now (arena .exit)
-        ≡ arenaAt (freshWords workers nodes) (entriesOf (now (schedule .entry))) (length (entriesOf (now (schedule .entry)))) ⌝ }
+        ≡ arenaAt (freshWords layout2 workers nodes) (entriesOf (now (schedule .entry))) (length (entriesOf (now (schedule .entry)))) ⌝ }
     ensures calls { λ _. ⌜ now (history .exit)
         ≡ told (flatWords callWords (recordsOf workers nodes (now (schedule .entry)))) (now (history .entry)) ⌝ }
     ensures waits { λ _. ⌜ now (waits .exit)
         ≡ told (flatWords waitWords (waitsOf workers nodes (now (schedule .entry)))) (now (waits .entry)) ⌝ }
-    ensures totals { λ r. ⌜ r ≡ totalsOf (totals (freshWords workers nodes) (entriesOf (now (schedule .entry)))) ⌝ }
+    ensures totals { λ r. ⌜ r ≡ totalsOf (totals (freshWords layout2 workers nodes) (entriesOf (now (schedule .entry)))) ⌝ }
 {
-    arena::init(arena, workers, nodes);
+    arena::init(arena, layout::LAYOUT_2, workers, nodes);
     let count = schedule.len() / verdict::ENTRY_WIDTH;
     let mut book = Book::new();
     let mut done = 0;
@@ -126,6 +126,7 @@ fn run_entries(
             schedule[at],
             schedule[at + 1],
             schedule[at + 2],
+            schedule[at + 3],
         );
         done += 1;
     }

@@ -10,10 +10,10 @@ use words::layout;
 use worker::Worker;
 use worker::refusal;
 
-// Words of an entry: worker, act, key.
-pub(crate) const ENTRY_WIDTH: usize = 3;
+// Words of an entry: worker, act, key, length.
+pub(crate) const ENTRY_WIDTH: usize = 4;
 
-const MOST_WORDS: usize = 12000;
+const MOST_WORDS: usize = 16000;
 
 // The act of a turn; the others are operations to start.
 pub(crate) const TURN: u16 = 0;
@@ -30,13 +30,13 @@ pub(crate) fn run_verdict(
     ensures { λ r. ⌜ verdictReply r
         ≡ replied (runRefusals (now (arena .entry)) workers nodes (now (schedule .entry)) «call_room» «wait_room») [] ⌝ }
 {
-    if !layout::good_counts(workers, nodes) {
+    if !layout::good_counts(layout::LAYOUT_2, workers, nodes) {
         return Verdict::Refused(refusal::BAD_COUNTS);
     }
     if is_bad(schedule) {
         return Verdict::Refused(refusal::BAD_SCHEDULE);
     }
-    if arena.len() < layout::total(layout::LAYOUT, workers, nodes) {
+    if arena.len() < layout::total(layout::LAYOUT_2, workers, nodes) {
         return Verdict::Refused(refusal::SHORT_ARENA);
     }
     if !has_room(schedule, call_room, Worker::ADD, Worker::CONTAINS) {

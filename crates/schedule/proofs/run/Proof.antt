@@ -7,7 +7,7 @@ use lib.ListN.{length}
 use lib.Seq.{length-take-le}
 use denote.Ref.{now}
 use borrow.Author.Needs.{needs}
-use Rattle.words.specs.Layout.{layoutNumber, total}
+use Rattle.words.specs.Layout.{layout2, total}
 use Rattle.words.specs.Replies.{verdictReply}
 use Rattle.words.proofs.Judged.{judged-refused, judged-accepted}
 use Rattle.linear.proofs.Theorem.{linearizable}
@@ -48,7 +48,7 @@ ready c κs =
     let passed = accepted (c .before .before .before .before) in
     let end = c .before .before .before .total in
     let args = c .before .before .before .before .before .before .before .before .before .before .before .before .args in
-    let just : end .result - 0 ≡ total layoutNumber (args .workers) (args .nodes) = omega (arith, end .ensures) in (
+    let just : end .result - 0 ≡ total layout2 (args .workers) (args .nodes) = omega (arith, end .ensures) in (
       passed .counts,
       (
         rw just (length-take-le _ (now (args .arena)) (passed .fits)),
@@ -67,7 +67,7 @@ done c =
     let told = sym (ap verdictReply (verdict .enum-told .given .1)) ∙ verdict .before .before .run-verdict .ensures in
     let end = c .before .before .before .before .before .before .before .before .before .before .total in
     let ran = c .before .before .before .before .before .before .run-entries .ensures in
-    let just : end .result - 0 ≡ total layoutNumber (args .workers) (args .nodes) = omega (arith, end .ensures) in (
+    let just : end .result - 0 ≡ total layout2 (args .workers) (args .nodes) = omega (arith, end .ensures) in (
       rw (ran .1 .1 .1) (sym (judged-accepted refusals [] _ _ told)),
       (
         rw (ran .0, just) (sym (judged-accepted refusals [] _ _ told)),
@@ -75,7 +75,7 @@ done c =
           ran .1 .0 ∙ sym (judged-accepted refusals [] _ _ told),
           (
             ran .1 .1 .0 ∙ sym (judged-accepted refusals [] _ _ told),
-            linearizable (args .workers) (args .nodes) (entriesOf (now (args .schedule))) (passed .counts),
+            linearizable layout2 (args .workers) (args .nodes) (entriesOf (now (args .schedule))) (passed .counts),
           ),
         ),
       ),

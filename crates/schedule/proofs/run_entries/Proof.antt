@@ -5,7 +5,7 @@ use native.Mathlib.Omega.{arith}
 use lib.ListN.{length}
 use denote.Ref.{now}
 use borrow.Author.Needs.{needs}
-use Rattle.schedule.specs.Run.{entriesOf}
+use Rattle.schedule.specs.Run.{entryWidth, entriesOf}
 use Rattle.schedule.proofs.EntryLaws.{entries-count, entries-quotient}
 use Rattle.schedule.proofs.Running.{Running, begins, may-enter, entered, history-end, waits-end, totals-end}
 use Rattle.schedule.proofs.run_entries.Statement.{statement}
@@ -39,8 +39,8 @@ loop-holds c =
 -- while there are entries left, the place of the next is inside
 inside : (c : tie.In-loop Inv-loop μ-loop) →
     let schedule = now (c .before .before .before .before .before .before .before .before .before .before .before .args .schedule) in
-    (c .before .loop .done < length (entriesOf schedule)) × (3 * c .before .loop .done + 2 < length schedule)
-    × (length schedule ≤ 12000)
+    (c .before .loop .done < length (entriesOf schedule)) × (entryWidth * c .before .loop .done + 3 < length schedule)
+    × (length schedule ≤ 16000)
 inside c =
     let start = c .before .before .before .before .before .before .before .before .before .before .before in
     let schedule = now (start .args .schedule) in
@@ -52,7 +52,7 @@ inside c =
 -- each entry may be made
 enters : tie.Need-enter-requires Inv-loop μ-loop
 enters c κs =
-    let body = c .before .before .before .before .before .before in
+    let body = c .before .before .before .before .before .before .before in
     let start = body .before .before .before .before .before .before .before .before .before .before .before in
     let args = start .args in
     may-enter (args .workers) (args .nodes) (now (args .schedule)) (now (args .history)) (now (args .waits))
@@ -60,7 +60,7 @@ enters c κs =
 
 loop-again : tie.Need-loop-again Inv-loop μ-loop
 loop-again c =
-    let body = c .before .before .before .before .before .before .before .before .before .before .before .before .before in
+    let body = c .before .before .before .before .before .before .before .before .before .before .before .before .before .before in
     let start = body .before .before .before .before .before .before .before .before .before .before .before in
     let args = start .args in
     let loop = body .before .loop in
@@ -114,11 +114,17 @@ run-entries-spec =
     tie.close
     (tie.spec Inv-loop μ-loop (search needs) (search needs) loop-holds (λ c. omega (arith, inside c)) (λ c. omega (arith, inside c))
     (λ c. omega (arith, inside c)) (λ c. omega (arith, inside (c .before .before .before)))
-    (λ c. omega (arith, inside (c .before .before .before .before))) (λ c. omega (arith, inside (c .before .before .before .before)))
-    (λ c. omega (arith, inside (c .before .before .before .before))) (λ c. omega (arith, inside (c .before .before .before .before .before)))
-    (λ c. omega (arith, inside (c .before .before .before .before .before))) (λ c. omega (arith, inside (c .before .before .before .before .before)))
-    (λ c. omega (arith, inside (c .before .before .before .before .before .before))) enters
-    (λ c. omega (arith, inside (c .before .before .before .before .before .before .before .before .before .before .before .before .before)))
+    (λ c. omega (arith, inside (c .before .before .before .before)))
+    (λ c. omega (arith, inside (c .before .before .before .before)))
+    (λ c. omega (arith, inside (c .before .before .before .before)))
+    (λ c. omega (arith, inside (c .before .before .before .before .before)))
+    (λ c. omega (arith, inside (c .before .before .before .before .before)))
+    (λ c. omega (arith, inside (c .before .before .before .before .before)))
+    (λ c. omega (arith, inside (c .before .before .before .before .before .before)))
+    (λ c. omega (arith, inside (c .before .before .before .before .before .before)))
+    (λ c. omega (arith, inside (c .before .before .before .before .before .before)))
+    (λ c. omega (arith, inside (c .before .before .before .before .before .before .before))) enters
+    (λ c. omega (arith, inside (c .before .before .before .before .before .before .before .before .before .before .before .before .before .before)))
     (search needs) loop-again
     (λ c. omega (arith, c .before .before .before .before .before .before .before .before .before .before .before .pre))
     (λ c. c .before .loop .inv .0 ∙ c .before .before .before .before .before .init .kept .0) (λ c. c .before .loop .inv .1 .0) (λ c. c .before .loop .inv .1 .1 .0)

@@ -9,7 +9,7 @@ turn c =
     let args = c .before .before .before .before .before .before .before .before .before .before .before .before .before .before .args in
     let told = c .before .before .before .before .before .before .enter-turn .ensures in
     rw (c .before .before .before .before .before .before .before .before .before .before .if1 .taken)
-    (told .0 (args .key), (told .1 .0 (args .key), (told .1 .1 .0 (args .key), told .1 .1 .1 (args .key))))
+    (told .0 (args .key) (args .length), (told .1 .0 (args .key) (args .length), (told .1 .1 .0 (args .key) (args .length), told .1 .1 .1 (args .key) (args .length))))
 
 may-start : tie.Need-enter-start-requires
 may-start c κs =

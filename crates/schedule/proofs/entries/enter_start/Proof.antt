@@ -13,7 +13,7 @@ looks c κs =
     let answered = c .before .before .before .before .before .before .before .before .before .before in
     let begin = answered .before .before .before .before in
     let args = begin .args in
-    let here = answered .start .ensures .1 ∙ start-arena (now (args .arena)) (args .worker) (args .act) (args .key) (begin .pre .0) in
+    let here = answered .start .ensures .1 ∙ start-arena (now (args .arena)) (args .worker) (args .act) (args .key) (args .length) (begin .pre .0) in
     (rw here (begin .pre .1 .1 .0), rw here (begin .pre .1 .1 .1))
 
 refused : tie.Need-returns
@@ -23,8 +23,8 @@ refused c =
     let args = c .before .before .before .before .before .before .before .before .before .args in
     let act = c .before .before .before .before .before .before .before .before .before .pre .0 in
     let told = sym (ap verdictReply (c .before .enum-told .given .1)) ∙ start .ensures .0 in
-    let after = after-refused-start (now (args .arena)) (args .worker) (args .time) (args .book) (args .act) (args .key) act told in (
-      start .ensures .1 ∙ start-arena (now (args .arena)) (args .worker) (args .act) (args .key) act,
+    let after = after-refused-start (now (args .arena)) (args .worker) (args .time) (args .book) (args .act) (args .key) (args .length) act told in (
+      start .ensures .1 ∙ start-arena (now (args .arena)) (args .worker) (args .act) (args .key) (args .length) act,
       (after .calls (now (args .history)), (after .waits, c .refuse .ensures ∙ after .books)),
     )
 
@@ -37,8 +37,8 @@ accepted c =
     let args = begin .args in
     let act = begin .pre .0 in
     let told = sym (ap verdictReply (answer .enum-told2 .given .1)) ∙ start .ensures .0 in
-    let here = start .ensures .1 ∙ start-arena (now (args .arena)) (args .worker) (args .act) (args .key) act in
-    let after = after-start (now (args .arena)) (args .worker) (args .time) (args .book) (args .act) (args .key) act told in
+    let here = start .ensures .1 ∙ start-arena (now (args .arena)) (args .worker) (args .act) (args .key) (args .length) act in
+    let after = after-start (now (args .arena)) (args .worker) (args .time) (args .book) (args .act) (args .key) (args .length) act told in
     let write = c .before .before .before .before .before in (
       here,
       (

@@ -18,10 +18,10 @@ refused c =
     let args = c .before .before .before .before .before .before .before .before .before .before .before .before .args in
     let told = sym (ap outcomeReply (c .before .enum-told .given .1)) ∙ turn .ensures .0 in
     let then = after-turn (now (args .arena)) (args .worker) (args .time) (args .book) (outcome.Refused _) told in (
-      λ key. turn .ensures .1 ∙ turn-arena (now (args .arena)) (args .worker) key,
+      λ key cells. turn .ensures .1 ∙ turn-arena (now (args .arena)) (args .worker) key cells,
       (
-        λ key. then key .calls (now (args .history)),
-        (λ key. then key .waits (now (args .waits)), λ key. c .refuse .ensures ∙ then key .books),
+        λ key cells. then key cells .calls (now (args .history)),
+        (λ key cells. then key cells .waits (now (args .waits)), λ key cells. c .refuse .ensures ∙ then key cells .books),
       ),
     )
 
@@ -32,10 +32,10 @@ idle c =
     let args = c .before .before .before .before .before .before .before .before .before .before .before .before .before .before .args in
     let told = sym (ap outcomeReply (c .before .before .before .report .given .1 ∙ ap outcome.Reported (c .enum-told2 .given .1))) ∙ turn .ensures .0 in
     let then = after-turn (now (args .arena)) (args .worker) (args .time) (args .book) (outcome.Reported report.Idle) told in (
-      λ key. turn .ensures .1 ∙ turn-arena (now (args .arena)) (args .worker) key,
+      λ key cells. turn .ensures .1 ∙ turn-arena (now (args .arena)) (args .worker) key cells,
       (
-        λ key. then key .calls (now (args .history)),
-        (λ key. then key .waits (now (args .waits)), λ key. then key .books),
+        λ key cells. then key cells .calls (now (args .history)),
+        (λ key cells. then key cells .waits (now (args .waits)), λ key cells. then key cells .books),
       ),
     )
 
@@ -47,13 +47,13 @@ moved c =
     let moves = c .before .before .enter-move in
     let told = sym (ap outcomeReply (c .before .before .before .before .before .before .before .before .report .given .1 ∙ ap outcome.Reported (c .before .before .before .before .before .enum-told3 .given .1))) ∙ turn .ensures .0 in
     let then = after-turn (now (args .arena)) (args .worker) (args .time) (args .book) (outcome.Reported (report.Moved (c .before .before .before .before .before .enum-told3 .given .0 .0))) told in (
-      λ key. turn .ensures .1 ∙ turn-arena (now (args .arena)) (args .worker) key,
+      λ key cells. turn .ensures .1 ∙ turn-arena (now (args .arena)) (args .worker) key cells,
       (
-        λ key. rw (moves .ensures .0, moves .ensures .1, c .before .before .before .before .before .before .before .before .before .before .before .before .before .before .read-worker .ensures, turn .ensures .1)
-            (then key .calls (now (args .history))),
+        λ key cells. rw (moves .ensures .0, moves .ensures .1, c .before .before .before .before .before .before .before .before .before .before .before .before .before .before .read-worker .ensures, turn .ensures .1)
+            (then key cells .calls (now (args .history))),
         (
-          λ key. then key .waits (now (args .waits)),
-          λ key. rw (moves .ensures .1, c .before .before .before .before .before .before .before .before .before .before .before .before .before .before .read-worker .ensures, turn .ensures .1) (then key .books),
+          λ key cells. then key cells .waits (now (args .waits)),
+          λ key cells. rw (moves .ensures .1, c .before .before .before .before .before .before .before .before .before .before .before .before .before .before .read-worker .ensures, turn .ensures .1) (then key cells .books),
         ),
       ),
     )
@@ -66,12 +66,12 @@ waits c =
     let told = sym (ap outcomeReply (c .before .before .before .before .before .before .before .before .before .before .report .given .1 ∙ ap outcome.Reported (c .before .before .before .before .before .before .before .report2 .given .1))) ∙ turn .ensures .0 in
     let then = after-turn (now (args .arena)) (args .worker) (args .time) (args .book)
     (outcome.Reported (report.Waits (c .before .before .before .before .before .before .before .report2 .given .0 .0) (c .before .before .before .before .before .before .before .report2 .given .0 .1 .0))) told in (
-      λ key. turn .ensures .1 ∙ turn-arena (now (args .arena)) (args .worker) key,
+      λ key cells. turn .ensures .1 ∙ turn-arena (now (args .arena)) (args .worker) key cells,
       (
-        λ key. then key .calls (now (args .history)),
+        λ key cells. then key cells .calls (now (args .history)),
         (
-          λ key. rw (c .before .before .before .write-wait .ensures, c .before .before .before .before .before .open-call .ensures) (then key .waits (now (args .waits))),
-          λ key. c .wait .ensures ∙ then key .books,
+          λ key cells. rw (c .before .before .before .write-wait .ensures, c .before .before .before .before .before .open-call .ensures) (then key cells .waits (now (args .waits))),
+          λ key cells. c .wait .ensures ∙ then key cells .books,
         ),
       ),
     )
@@ -84,10 +84,10 @@ finished c =
     let told = sym (ap outcomeReply (c .before .before .before .before .before .before .before .before .report .given .1 ∙ ap outcome.Reported (c .before .before .before .before .before .enum-told4 .given .1))) ∙ turn .ensures .0 in
     let then = after-turn (now (args .arena)) (args .worker) (args .time) (args .book)
     (outcome.Reported (report.Finished (c .before .before .before .before .before .enum-told4 .given .0 .0))) told in (
-      λ key. turn .ensures .1 ∙ turn-arena (now (args .arena)) (args .worker) key,
+      λ key cells. turn .ensures .1 ∙ turn-arena (now (args .arena)) (args .worker) key cells,
       (
-        λ key. rw (c .before .before .note-finish .ensures, c .before .before .before .open-call2 .ensures) (then key .calls (now (args .history))),
-        (λ key. then key .waits (now (args .waits)), λ key. then key .books),
+        λ key cells. rw (c .before .before .note-finish .ensures, c .before .before .before .open-call2 .ensures) (then key cells .calls (now (args .history))),
+        (λ key cells. then key cells .waits (now (args .waits)), λ key cells. then key cells .books),
       ),
     )
 
