@@ -8,11 +8,11 @@ ghost use lib.Seq.{sets};
 ghost use Rattle.words.specs.Replies.{replied, written};
 ghost use Rattle.arena.specs.Snapshot.{listingReply, isNone, chain, chainBroken, chainKeys, chainRefusals};
 use crate::Listing;
-use worker::Node;
-use worker::refusal;
 use words::put;
 use words::records::read_node;
 use words::write;
+use worker::Node;
+use worker::refusal;
 
 // Walks from Head to Tail and gathers the keys between in a row: the snapshot, were there room for any number of keys.
 fn survey(nodes: &[u16], width: u16, count: u16, row: &mut [u16]) -> Listing

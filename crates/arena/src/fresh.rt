@@ -8,15 +8,15 @@ ghost use lib.Seq.{sets};
 ghost use Rattle.words.specs.Layout.{headerWidth, workerFrom, total, goodCounts};
 ghost use Rattle.words.specs.Replies.{verdictReply, replied};
 ghost use Rattle.arena.specs.Init.{freshWorkers, freshNodes, freshWords, initRefusals};
-use worker::Node;
-use worker::Worker;
-use worker::refusal;
 use words::Verdict;
 use words::clear;
 use words::layout;
 use words::put;
 use words::records::worker_words;
 use words::write;
+use worker::Node;
+use worker::Worker;
+use worker::refusal;
 
 pub(crate) fn init_verdict(arena: &[u16], layout: u16, workers: u16, nodes: u16) -> Verdict
     ensures { λ r. ⌜ verdictReply r ≡ replied (initRefusals (now (arena .entry)) layout workers nodes) [] ⌝ }
@@ -72,7 +72,19 @@ fn write_nodes(nodes: &mut [u16], width: u16, count: u16)
     ensures { λ _. ⌜ now (nodes .exit) ≡ freshNodes width count ⌝ }
 {
     clear(nodes);
-    put(nodes, layout::slot(width, Node::HEAD, layout::NODE_NEXT), Node::head().next);
-    put(nodes, layout::slot(width, Node::TAIL, layout::NODE_KEY), Node::tail().key);
-    put(nodes, layout::slot(width, Node::TAIL, layout::NODE_NEXT), Node::tail().next);
+    put(
+        nodes,
+        layout::slot(width, Node::HEAD, layout::NODE_NEXT),
+        Node::head().next,
+    );
+    put(
+        nodes,
+        layout::slot(width, Node::TAIL, layout::NODE_KEY),
+        Node::tail().key,
+    );
+    put(
+        nodes,
+        layout::slot(width, Node::TAIL, layout::NODE_NEXT),
+        Node::tail().next,
+    );
 }

@@ -6,12 +6,12 @@ ghost use Rattle.words.specs.Replies.{verdictReply, replied};
 ghost use Rattle.arena.specs.Init.{initAnswer, initArena};
 ghost use Rattle.arena.specs.Start.{callRefusals, startRefusals, startAnswer, startArena};
 ghost use Rattle.arena.specs.Snapshot.{listingReply, snapshotAnswer, snapshotWords};
-use worker::Worker;
-use worker::refusal;
 use words::Verdict;
 use words::header_verdict;
 use words::layout;
 use words::records;
+use worker::Worker;
+use worker::refusal;
 
 mod chain;
 mod fresh;

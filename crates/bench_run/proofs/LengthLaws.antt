@@ -13,6 +13,7 @@ use Rattle.worker.specs.Worker.{add, remove}
 use Rattle.worker.specs.Refusals.{Refusal, judged}
 use Rattle.worker.proofs.Laws.{range-bounds}
 use Rattle.words.specs.Replies.{Reply, refused, accepted, replied}
+use Rattle.words.specs.Layout.{layout2}
 use Rattle.arena.specs.Init.{freshWords}
 use Rattle.arena.specs.Snapshot.{keysOf}
 use Rattle.words.proofs.Bounds.{counts}
@@ -173,11 +174,11 @@ run-short : (workers nodes : ℕ) (schedule : List ℕ) → Accepted (replicate 
     length (runText workers nodes schedule) ≤ 131072
 unfolding runText
 run-short workers nodes schedule passed =
-    let r : Schedule = freshSchedule workers nodes (entriesOf schedule) (passed .counts) in
+    let r : Schedule = freshSchedule layout2 workers nodes (entriesOf schedule) (passed .counts) in
     simp length-append
     (omega (
       arith,
-      totals-short (totalsOf (totals (freshWords workers nodes) (entriesOf schedule))),
+      totals-short (totalsOf (totals (freshWords layout2 workers nodes) (entriesOf schedule))),
       calls-short (waitsOf workers nodes schedule) (recordsOf workers nodes schedule),
       calls-few workers nodes schedule (passed .counts),
       waits-few workers nodes schedule (passed .counts),
@@ -188,7 +189,7 @@ run-short workers nodes schedule passed =
       roll-short (keysOf (arena r (last r))),
       keys-few (arena r (last r)),
       sound r (last r) .nodes-are,
-      counts workers nodes (passed .counts),
+      counts layout2 workers nodes (passed .counts),
     ))
 
 schedule-short : (workers nodes : ℕ) (schedule : List ℕ) → length (scheduleText workers nodes schedule) ≤ 131072

@@ -4,17 +4,15 @@ use mathlib.Core.Path.{_≡_, refl, sym, ap, _∙_}
 use mathlib.Core.List.{List, [], _∷_, _++_, flatten}
 use mathlib.Core.Bool.{Bool, true, false, cond}
 use native.Mathlib.Omega.{arith}
-use lib.ListN.{length, take, drop, replicate, length-set, length-replicate}
+use lib.ListN.{length, take, drop, replicate, length-replicate}
 use lib.Seq.{length-sets, take-append-seam, take-at}
 use lib.Dec.{ltb}
 use borrow.Author.Tests.{le-ltb}
 use Rattle.worker.specs.Worker.{startedWorker}
 use Rattle.worker.specs.Refusals.{Refusal, judged, noRoom}
-use Rattle.worker.specs.declared.report.Effect.{Effect}
-use Rattle.worker.specs.declared.report.Effect.the-variants as effect
 use Rattle.worker.specs.declared.report.Turned.{Turned}
 use Rattle.worker.specs.declared.report.Turned.the-variants as turned
-use Rattle.words.specs.Layout.{layoutNumber, nodeWidth, goodCounts, total}
+use Rattle.words.specs.Layout.{layout2, nodeWidth, goodCounts, total}
 use Rattle.words.specs.Records.{withWorker}
 use Rattle.words.specs.Replies.{refused, accepted, replied}
 use Rattle.arena.specs.Init.{freshWords}
@@ -26,6 +24,7 @@ use Rattle.words.proofs.Judged.{judged-refused, judged-accepted, given-values}
 use Rattle.lazy.specs.Turn.{turnOn, withEffect, turnedArena, turnArena}
 use Rattle.linear.specs.Entries.{Entry, isTurn, after}
 use Rattle.linear.specs.History.{arenaAt, totals}
+use Rattle.linear.proofs.Words.{effect-long}
 use Rattle.linear.proofs.Timeline.{freshSchedule, Schedule, last, arena, entry}
 use Rattle.schedule.specs.declared.Call.{Call}
 use Rattle.schedule.specs.declared.Wait.{Wait}
@@ -37,7 +36,7 @@ use Rattle.schedule.proofs.Running.{calls-few, waits-few}
 use Rattle.history.specs.Rows.{noCall, noWait}
 use Rattle.bench_input.specs.declared.Plan.{Plan}
 use Rattle.bench_input.specs.declared.Parsed.the-variants as parsed
-use Rattle.bench_input.specs.Input.{Reading, planned, badLine, readingOf, parsedOf, scheduled}
+use Rattle.bench_input.specs.Input.{entryWidth, Reading, planned, badLine, readingOf, parsedOf, scheduled}
 use Rattle.bench_print.specs.Print.{badLineText, refusedText, totalsText, rollText}
 use Rattle.bench_input.proofs.PlanLaws.{Fits, planned-sound, planned-words}
 use Rattle.bench_run.proofs.RollLaws.{roll-fits}
@@ -54,31 +53,23 @@ judged-length (r ∷ rs) before after same = go (r .0) (judged-length rs before 
     go true rest = refl
     go false rest = rest
 
-effect-length : (words : List ℕ) (e : Effect) → length (withEffect words e) ≡ length words
-unfolding withEffect
-effect-length words effect.Nothing = refl
-effect-length words (effect.SetOwner node owner) = rw length-set
-effect-length words (effect.SetNext node next) = rw length-set
-effect-length words (effect.SetMark node) = rw length-set
-effect-length words (effect.Fill node key next) = rw length-sets
-
 turned-length : (words : List ℕ) (worker : ℕ) (t : Turned) → length (turnedArena words worker t) ≡ length words
 unfolding withWorker
-turned-length words worker (turned.Done step) = rw length-sets (effect-length words (step .effect))
+turned-length words worker (turned.Done step) = rw length-sets (effect-long words (step .effect))
 turned-length words worker (turned.Refused number) = refl
 
 after-length : (words : List ℕ) (x : Entry) → length (after words x) ≡ length words
 unfolding after startArena turnArena withWorker
 after-length words x = go (isTurn x)
   where
-    go : (turning : Bool) → length (cond turning (turnArena words (x .worker)) (startArena words (x .worker) (x .act) (x .key))) ≡ length
+    go : (turning : Bool) → length (cond turning (turnArena words (x .worker)) (startArena words (x .worker) (x .act) (x .key) (x .length))) ≡ length
         words
     go true = turned-length words (x .worker) (turnOn words (x .worker))
-    go false = judged-length (startRefusals words (x .worker) (x .act) (x .key)) words
-        (withWorker words (x .worker) (startedWorker (x .act) (x .key))) (rw length-sets)
+    go false = judged-length (startRefusals words (x .worker) (x .act) (x .key) (x .length)) words
+        (withWorker words (x .worker) (startedWorker (x .act) (x .key) (x .length))) (rw length-sets)
 
-arena-length : (r : Schedule) (time : ℕ) → length (r .initial) ≡ total layoutNumber (r .workers) (r .nodes) →
-    length (arena r time) ≡ total layoutNumber (r .workers) (r .nodes)
+arena-length : (r : Schedule) (time : ℕ) → length (r .initial) ≡ total layout2 (r .workers) (r .nodes) →
+    length (arena r time) ≡ total layout2 (r .workers) (r .nodes)
 unfolding arenaAt
 arena-length r zero fresh = fresh
 arena-length r (suc time) fresh = after-length (arena r time) (entry r time) ∙ arena-length r time fresh
@@ -101,17 +92,17 @@ module _ (workers nodes : ℕ) (schedule : List ℕ) where
     passed = run-passed lent workers nodes schedule recordCount waitCount _ told
 
     abbrev run : Schedule
-    run = freshSchedule workers nodes (entriesOf schedule) (passed .counts)
+    run = freshSchedule layout2 workers nodes (entriesOf schedule) (passed .counts)
 
     -- where the run is accepted, its text is printed
     pub done-text : runText workers nodes schedule ≡ scheduleText workers nodes schedule
     unfolding scheduleText runAnswer
     done-text = sym (judged-accepted refusals _ refusedText (runText workers nodes schedule) told)
 
-    pub totals-are : t ≡ totalsOf (totals (freshWords workers nodes) (entriesOf schedule))
+    pub totals-are : t ≡ totalsOf (totals (freshWords layout2 workers nodes) (entriesOf schedule))
     unfolding runAnswer
     totals-are =
-        let all = totals (freshWords workers nodes) (entriesOf schedule) in
+        let all = totals (freshWords layout2 workers nodes) (entriesOf schedule) in
         let same : t .entries ∷ t .refused ∷ t .waits ∷ t .calls ∷ [] ≡ all .entries ∷ all .refused ∷ all .waits ∷ all .calls ∷ []
         = given-values refusals (all .entries ∷ all .refused ∷ all .waits ∷ all .calls ∷ []) told in
         let entries-same : t .entries ≡ all .entries = cc in
@@ -149,16 +140,16 @@ module _ (workers nodes : ℕ) (schedule : List ℕ) where
     few-waits = omega (arith, waits-counted, waits-few workers nodes schedule (passed .counts), passed .waits-fit)
 
     -- and the first words are the arena
-    pub arena-are : take (total layoutNumber workers nodes) (runArena lent workers nodes schedule recordCount waitCount)
-        ≡ arenaAt (freshWords workers nodes) (entriesOf schedule) (length (entriesOf schedule))
+    pub arena-are : take (total layout2 workers nodes) (runArena lent workers nodes schedule recordCount waitCount)
+        ≡ arenaAt (freshWords layout2 workers nodes) (entriesOf schedule) (length (entriesOf schedule))
     unfolding runArena runAnswer
     arena-are =
-        ap (take (total layoutNumber workers nodes))
-        (judged-accepted refusals _ (λ number. lent) (arena run (last run) ++ drop (total layoutNumber workers nodes) lent) told)
-        ∙ take-at (arena run (last run)) (drop (total layoutNumber workers nodes) lent) (total layoutNumber workers nodes)
-        (arena-length run (last run) (fresh-length workers nodes (omega (arith, counts workers nodes (passed .counts)))))
+        ap (take (total layout2 workers nodes))
+        (judged-accepted refusals _ (λ number. lent) (arena run (last run) ++ drop (total layout2 workers nodes) lent) told)
+        ∙ take-at (arena run (last run)) (drop (total layout2 workers nodes) lent) (total layout2 workers nodes)
+        (arena-length run (last run) (fresh-length layout2 workers nodes (omega (arith, counts layout2 workers nodes (passed .counts)))))
 
-    pub roll-room : accepted [] ≡ replied (snapshotRefusals (arenaAt (freshWords workers nodes) (entriesOf schedule) (length (entriesOf schedule)))
+    pub roll-room : accepted [] ≡ replied (snapshotRefusals (arenaAt (freshWords layout2 workers nodes) (entriesOf schedule) (length (entriesOf schedule)))
         1024) []
     roll-room = roll-fits run (last run)
 
@@ -166,7 +157,7 @@ module _ (workers nodes : ℕ) (schedule : List ℕ) where
     pub whole-text : {row : List Call} {waits : List Wait} {words : List ℕ} {end : ℕ} →
         row ≡ runRecords lent workers nodes schedule (replicate recordCount noCall) waitCount →
         waits ≡ runWaits lent workers nodes schedule recordCount (replicate waitCount noWait) →
-        words ≡ runArena lent workers nodes schedule recordCount waitCount → end ≡ total layoutNumber workers nodes →
+        words ≡ runArena lent workers nodes schedule recordCount waitCount → end ≡ total layout2 workers nodes →
         totalsText t ++ callsText (take (t .waits) waits) 0 (take (t .calls) row) ++ rollText (keysOf (take end words))
         ≡ scheduleText workers nodes schedule
     unfolding runText
@@ -183,7 +174,7 @@ module _ (input : List ℕ) where
       go (badLine number entries) e = let same : line ≡ number = cc in ap badLineText same
 
   module _ (plan : Plan) (words : List ℕ) (told : parsed.Planned plan ≡ parsedOf (readingOf input))
-      (written : words ≡ scheduled (replicate 12000 0) (readingOf input)) where
+      (written : words ≡ scheduled (replicate 16000 0) (readingOf input)) where
     -- the plan of a reading
     as-planned : (o : Reading) → parsed.Planned plan ≡ parsedOf o →
         (entries : List (List ℕ)) × (o ≡ planned (plan .workers) (plan .nodes) entries) × (plan .entries ≡ length entries)
@@ -192,33 +183,33 @@ module _ (input : List ℕ) where
         (entries, rw same, ap (λ (p : Plan). p .entries) same)
     as-planned (badLine number entries) e = let z : _≡_ {A = ℕ} 0 1 = cc in absurd (omega arith)
 
-    pub plan-fits : 3 * plan .entries ≤ 12000
+    pub plan-fits : entryWidth * plan .entries ≤ 16000
     plan-fits =
         let is = as-planned (readingOf input) told in
         omega (arith, is .2, planned-sound input (plan .workers) (plan .nodes) (is .0) (is .1) .1 .few)
 
-    pub plan-text : scheduleText (plan .workers) (plan .nodes) (take (3 * plan .entries) words) ≡ outputOf input
+    pub plan-text : scheduleText (plan .workers) (plan .nodes) (take (entryWidth * plan .entries) words) ≡ outputOf input
     unfolding outputOf
     plan-text =
         let is = as-planned (readingOf input) told in
         ap (scheduleText (plan .workers) (plan .nodes))
-        (ap (λ n. take (3 * n) words) (is .2) ∙ ap (take (3 * length (is .0))) written
-        ∙ planned-words input (plan .workers) (plan .nodes) (is .0) (is .1) (replicate 12000 0) (rw length-replicate (omega arith)))
+        (ap (λ n. take (entryWidth * n) words) (is .2) ∙ ap (take (entryWidth * length (is .0))) written
+        ∙ planned-words input (plan .workers) (plan .nodes) (is .0) (is .1) (replicate 16000 0) (rw length-replicate (omega arith)))
         ∙ sym (ap readingText (is .1))
 
 -- of a plan the counts and the length of the schedule are good, and the arena's words are enough: only the rows may be too short
 good-plan : (entries : List (List ℕ)) → Fits entries → isBadSchedule (flatten entries) ≡ false
 unfolding isBadSchedule
 good-plan entries fits =
-    let whole-entries : length (flatten entries) % 3 ≡ 0 = omega (arith, fits .sized) in
-    rw (whole-entries, le-ltb 12000 (length (flatten entries)) (omega (arith, fits .few, fits .sized)))
+    let whole-entries : length (flatten entries) % entryWidth ≡ 0 = omega (arith, fits .sized) in
+    rw (whole-entries, le-ltb 16000 (length (flatten entries)) (omega (arith, fits .few, fits .sized)))
 
-wide-enough : (workers nodes : ℕ) → goodCounts workers nodes ≡ true →
-    ltb (length {A = ℕ} (replicate arenaWords 0)) (total layoutNumber workers nodes) ≡ false
+wide-enough : (workers nodes : ℕ) → goodCounts layout2 workers nodes ≡ true →
+    ltb (length {A = ℕ} (replicate arenaWords 0)) (total layout2 workers nodes) ≡ false
 unfolding nodeWidth
 wide-enough workers nodes good =
-    le-ltb (length {A = ℕ} (replicate arenaWords 0)) (total layoutNumber workers nodes)
-    (omega (arith, counts workers nodes good, length-replicate {A = ℕ} arenaWords 0))
+    le-ltb (length {A = ℕ} (replicate arenaWords 0)) (total layout2 workers nodes)
+    (omega (arith, counts layout2 workers nodes good, length-replicate {A = ℕ} arenaWords 0))
 
 pub only-no-room : (input : List ℕ) (workers nodes : ℕ) (entries : List (List ℕ)) → readingOf input ≡ planned workers nodes entries →
     {number : ℕ} → refused number ≡ replied (runRefusals (replicate arenaWords 0) workers nodes (flatten entries) recordCount waitCount) [] →

@@ -54,4 +54,4 @@ snapshot-fits words unbroken header room enough =
 pub roll-fits : (r : Schedule) (time : ℕ) → accepted [] ≡ replied (snapshotRefusals (arena r time) 1024) []
 roll-fits r time =
     snapshot-fits (arena r time) (whole (sound r time) (always r time)) (sound r time .none) 1024
-    (omega (arith, sound r time .nodes-are, counts (r .workers) (r .nodes) (r .good)))
+    (omega (arith, sound r time .nodes-are, counts (r .layout) (r .workers) (r .nodes) (r .good)))

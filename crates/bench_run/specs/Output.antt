@@ -5,6 +5,7 @@ use mathlib.Core.Bool.{Bool}
 use lib.ListN.{length, replicate}
 use lib.Dec.{eqb}
 use Rattle.worker.specs.Refusals.{judged}
+use Rattle.words.specs.Layout.{layout2}
 use Rattle.arena.specs.Init.{freshWords}
 use Rattle.arena.specs.Snapshot.{keysOf}
 use Rattle.linear.specs.Lists.{filter}
@@ -22,9 +23,9 @@ recordCount = 1000
 abbrev pub waitCount : ℕ
 waitCount = 4000
 
--- the words it lends for an arena: enough for 8 workers and 1,024 nodes
+-- the words it lends for an arena: enough for 8 workers and 1,024 nodes in layout 2
 abbrev pub arenaWords : ℕ
-arenaWords = 4168
+arenaWords = 5192
 
 -- a call's line, and behind it its waits, by moment
 abbrev pub isWaitOf : ℕ → Wait → Bool
@@ -42,9 +43,9 @@ callsText waits number (call ∷ calls) = linesText waits number call ++ callsTe
 unfoldable pub runText : ℕ → ℕ → List ℕ → List ℕ
 runText workers nodes schedule =
     let entries = entriesOf schedule in
-    totalsText (totalsOf (totals (freshWords workers nodes) entries))
+    totalsText (totalsOf (totals (freshWords layout2 workers nodes) entries))
     ++ callsText (waitsOf workers nodes schedule) 0 (recordsOf workers nodes schedule)
-    ++ rollText (keysOf (arenaAt (freshWords workers nodes) entries (length entries)))
+    ++ rollText (keysOf (arenaAt (freshWords layout2 workers nodes) entries (length entries)))
 
 -- a refused run prints its number alone, and that is 8 (`OutputLaws.only-no-room`)
 unfoldable pub scheduleText : ℕ → ℕ → List ℕ → List ℕ

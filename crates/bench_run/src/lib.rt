@@ -9,22 +9,22 @@ ghost use Rattle.linear.specs.Lists.{filter};
 ghost use Rattle.bench_print.specs.Print.{Printed, waitText, rollText};
 ghost use Rattle.bench_run.specs.Output.{isWaitOf, callsText, outputOf, scheduleText};
 use arena::Listing;
-use words::layout;
 use bench_input::Parsed;
 use schedule::Call;
 use schedule::Summary;
 use schedule::Wait;
+use words::layout;
 
 // Writes what is printed for an input, as far as there is room, and answers its length. 131,072 bytes hold every output
 // (`LengthLaws.output-whole`).
 pub fn answer(input: &[u8], output: &mut [u8]) -> usize
     ensures { λ r. ⌜ Printed (outputOf (now (input .entry))) (now (output .entry)) 0 (now (output .exit)) r ⌝ }
 {
-    let mut schedule = [0u16; 12000];
+    let mut schedule = [0u16; 16000];
     match bench_input::parse(input, &mut schedule) {
         Parsed::BadLine(line) => bench_print::print_bad_line(output, 0, line),
         Parsed::Planned(plan) => {
-            let end = 3 * (plan.entries as usize);
+            let end = bench_input::ENTRY_WIDTH * (plan.entries as usize);
             print_schedule(output, plan.workers, plan.nodes, &schedule[0..end])
         }
     }
@@ -33,7 +33,7 @@ pub fn answer(input: &[u8], output: &mut [u8]) -> usize
 fn print_schedule(output: &mut [u8], workers: u16, nodes: u16, schedule: &[u16]) -> usize
     ensures { λ r. ⌜ Printed (scheduleText workers nodes (now (schedule .entry))) (now (output .entry)) 0 (now (output .exit)) r ⌝ }
 {
-    let mut arena = [0u16; 4168];
+    let mut arena = [0u16; 5192];
     let ran = history::run_thousand(&mut arena, workers, nodes, schedule);
     let summary = ran.summary;
     let row = ran.row;
@@ -43,7 +43,7 @@ fn print_schedule(output: &mut [u8], workers: u16, nodes: u16, schedule: &[u16])
         Summary::Done(totals) => {
             let calls_at = bench_print::print_totals(output, 0, totals);
             let roll_at = print_calls(output, calls_at, row, totals.calls, waits, totals.waits);
-            let end = layout::total(layout::LAYOUT, workers, nodes);
+            let end = layout::total(layout::LAYOUT_2, workers, nodes);
             print_keys(output, roll_at, &arena[0..end])
         }
     }

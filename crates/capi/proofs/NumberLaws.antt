@@ -19,6 +19,7 @@ use Rattle.worker.specs.declared.report.Turned.the-variants as turned
 use Rattle.words.specs.Records.{workerAt}
 use Rattle.words.specs.Replies.{Reply, refused, accepted, replied}
 use Rattle.words.specs.Header.{headerRefusals}
+use Rattle.words.specs.Layout.{layout2}
 use Rattle.arena.specs.Init.{freshWords, initRefusals, initAnswer}
 use Rattle.arena.specs.Start.{callRefusals, startRefusals, startAnswer}
 use Rattle.arena.specs.Snapshot.{chainBroken, chainTooLong, chainRefusals, snapshotRefusals, snapshotAnswer}
@@ -113,13 +114,13 @@ worker-readable w owner seen = go (eqb (w .stage) idleStage)
     go false = judged-numbered TurnedReadable (busyRefusals w seen) turned.Refused (turned.Done step) refl refused-readable done
 
 module _ (arena : List ℕ) where
-  pub init-readable : (workers nodes : ℕ) → Readable (initAnswer arena workers nodes)
+  pub init-readable : (layout workers nodes : ℕ) → Readable (initAnswer arena layout workers nodes)
   unfolding initAnswer initRefusals
-  init-readable workers nodes = replied-readable (initRefusals arena workers nodes) [] refl
+  init-readable layout workers nodes = replied-readable (initRefusals arena layout workers nodes) [] refl
 
-  pub start-readable : (worker operation key : ℕ) → Readable (startAnswer arena worker operation key)
+  pub start-readable : (worker operation key length : ℕ) → Readable (startAnswer arena worker operation key length)
   unfolding startAnswer startRefusals callRefusals headerRefusals
-  start-readable worker operation key = replied-readable (startRefusals arena worker operation key) [] refl
+  start-readable worker operation key length = replied-readable (startRefusals arena worker operation key length) [] refl
 
   pub snapshot-readable : (room : ℕ) → Readable (unreported (snapshotAnswer arena room))
   unfolding snapshotAnswer snapshotRefusals chainRefusals chainBroken chainTooLong headerRefusals
@@ -139,6 +140,6 @@ module _ (arena : List ℕ) where
 
 -- a run that returns 0 is done
 pub zero-done : (s : Summary) (workers nodes : ℕ) (schedule : List ℕ) → Readable (summaryReply s) → replyNumber (bare (summaryReply s)) ≡ 0 →
-    DoneLinearizable s workers nodes schedule → Linearizable (freshWords workers nodes) (entriesOf schedule)
+    DoneLinearizable s workers nodes schedule → Linearizable (freshWords layout2 workers nodes) (entriesOf schedule)
 zero-done (summary.Done totals) workers nodes schedule tells zero holds = holds
 zero-done (summary.Refused number) workers nodes schedule tells zero holds = absurd (omega arith)

@@ -2,6 +2,7 @@
 ghost use mathlib.Core.Path.{_≡_};
 ghost use Prim.Native.Nat.{_/_};
 ghost use lib.ListN.{length};
+ghost use Rattle.words.specs.Layout.{layout2};
 ghost use Rattle.arena.specs.Init.{freshWords, initAnswer, initArena};
 ghost use Rattle.arena.specs.Start.{startAnswer, startArena};
 ghost use Rattle.arena.specs.Snapshot.{snapshotAnswer, snapshotWords};
@@ -13,22 +14,28 @@ use schedule::Summary;
 
 mod number;
 
-// Lays a fresh arena.
+// Lays a fresh arena of a layout.
 #[no_mangle]
-pub extern "C" fn lazy_list_init(arena: &mut [u16], workers: u16, nodes: u16) -> u64
-    ensures number { λ r. ⌜ r ≡ replyNumber (initAnswer (now (arena .entry)) workers nodes) ⌝ }
-    ensures words { λ _. ⌜ now (arena .exit) ≡ initArena (now (arena .entry)) workers nodes ⌝ }
+pub extern "C" fn lazy_list_init(arena: &mut [u16], layout: u16, workers: u16, nodes: u16) -> u64
+    ensures number { λ r. ⌜ r ≡ replyNumber (initAnswer (now (arena .entry)) layout workers nodes) ⌝ }
+    ensures words { λ _. ⌜ now (arena .exit) ≡ initArena (now (arena .entry)) layout workers nodes ⌝ }
 {
-    number::of_verdict(arena::init(arena, workers, nodes))
+    number::of_verdict(arena::init(arena, layout, workers, nodes))
 }
 
-// Starts a call on a worker.
+// Starts a call on a worker; an add in layout 2 carries the length of its label, every other call 0.
 #[no_mangle]
-pub extern "C" fn lazy_list_start(arena: &mut [u16], worker: u16, operation: u16, key: u16) -> u64
-    ensures number { λ r. ⌜ r ≡ replyNumber (startAnswer (now (arena .entry)) worker operation key) ⌝ }
-    ensures words { λ _. ⌜ now (arena .exit) ≡ startArena (now (arena .entry)) worker operation key ⌝ }
+pub extern "C" fn lazy_list_start(
+    arena: &mut [u16],
+    worker: u16,
+    operation: u16,
+    key: u16,
+    length: u16,
+) -> u64
+    ensures number { λ r. ⌜ r ≡ replyNumber (startAnswer (now (arena .entry)) worker operation key length) ⌝ }
+    ensures words { λ _. ⌜ now (arena .exit) ≡ startArena (now (arena .entry)) worker operation key length ⌝ }
 {
-    number::of_verdict(arena::start(arena, worker, operation, key))
+    number::of_verdict(arena::start(arena, worker, operation, key, length))
 }
 
 // Gives a worker a turn.
@@ -72,7 +79,7 @@ pub extern "C" fn lazy_list_run(
         (now (history .entry)) (now (waits .entry)) ⌝ }
     ensures totals { λ _. ⌜ now (totals .exit) ≡ valuesOr (now (totals .entry)) (runAnswer (now (arena .entry)) workers nodes
         (now (schedule .entry)) (length (now (history .entry)) / callWidth) (length (now (waits .entry)) / waitWidth)) ⌝ }
-    ensures linearizable { λ r. ⌜ (r ≡ 0 → Linearizable (freshWords workers nodes) (entriesOf (now (schedule .entry)))) ⌝ }
+    ensures linearizable { λ r. ⌜ (r ≡ 0 → Linearizable (freshWords layout2 workers nodes) (entriesOf (now (schedule .entry)))) ⌝ }
 {
     let summary = schedule::run(arena, workers, nodes, schedule, history, waits);
     write_totals(totals, summary);

@@ -7,9 +7,9 @@ ghost use Rattle.lazy.specs.Turn.{outcomeReply};
 ghost use Rattle.schedule.specs.Run.{summaryReply};
 ghost use Rattle.capi.specs.Number.{replyNumber, unreported, Fitting, bare};
 use arena::Listing;
-use words::Verdict;
 use lazy::Outcome;
 use schedule::Summary;
+use words::Verdict;
 use worker::Answer;
 use worker::Report;
 

@@ -3,8 +3,8 @@ use crate::print::end_line;
 use crate::print::show_word;
 use crate::print::show_words;
 use crate::turns::show_outcome;
-use words::put;
 use lazy::Outcome;
+use words::put;
 use worker::Worker;
 
 // One worker and four nodes: Head, then node 2 with key 5; node 3 is free. The worker stands at a stage, with pred 0, curr 2, spare 2.

@@ -8,6 +8,7 @@ use lib.Dec.{lit<}
 use lib.ListN.{length, getD, drop, length-append, length-drop}
 use Rattle.worker.specs.Refusals.{Refusal, judged}
 use Rattle.words.specs.Replies.{replied}
+use Rattle.words.specs.Layout.{layout2}
 use Rattle.arena.specs.Init.{freshWords}
 use Rattle.words.proofs.Judged.{judged-refused, judged-accepted, given-values}
 use Rattle.linear.specs.History.{totals}
@@ -92,7 +93,7 @@ module _ (arena : List ℕ) (workers nodes : ℕ) (schedule : List ℕ) (call-ro
 
   abbrev values : List ℕ
   values =
-      let told = totals (freshWords workers nodes) (entriesOf schedule) in
+      let told = totals (freshWords layout2 workers nodes) (entriesOf schedule) in
       told .entries ∷ told .refused ∷ told .waits ∷ told .calls ∷ []
 
   calls-counted : (done : Totals) → summaryReply (summary.Done done) ≡ replied refusals values →

@@ -75,11 +75,13 @@ module _ {before after : Lengths} {operation key length answer : ℕ} where
       Answered after labels operation key length answer
   does-answered {labels} (adds o a absent changes) holds =
       let new = there holds key absent in
-      rw (o, a, add-absent labels (labelled key length) new)
-      (refl, (
-        including-rises (labelled key length) labels (holds .0) new,
-        λ k. including-find (labelled key length) labels k new ∙ rw (holds .1 k) (sym (changes k)),
-      ))
+      rw (o, a, add-absent labels (labelled key length) new) (
+        refl,
+        (
+          including-rises (labelled key length) labels (holds .0) new,
+          λ k. including-find (labelled key length) labels k new ∙ rw (holds .1 k) (sym (changes k)),
+        ),
+      )
   does-answered {labels} (adds-not o a present stays) holds =
       rw (o, a, add-present labels (labelled key length) false (there holds key present)) (refl, kept holds stays)
   does-answered {labels} (is-full o a absent stays) holds = rw (o, a, add-full labels (labelled key length) (there holds key absent)) (refl, kept holds stays)

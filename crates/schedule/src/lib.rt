@@ -10,9 +10,9 @@ ghost use Rattle.linear.specs.History.{totals, arenaAt};
 ghost use Rattle.schedule.specs.Run.{entryWidth, entriesOf, isOperation, countIn, callWidth, callWords, recordsOf};
 ghost use Rattle.schedule.specs.Run.{waitWidth, waitWords, waitsOf, flatWords, told, totalsOf};
 ghost use Rattle.schedule.specs.Run.{summaryReply, runAnswer, runArena, runCallWords, runWaitWords, DoneLinearizable};
+use book::Book;
 use words::Verdict;
 use words::layout;
-use book::Book;
 
 mod book;
 pub mod calls;

@@ -4,8 +4,8 @@ ghost use mathlib.Core.List.{[]};
 ghost use Rattle.words.specs.Replies.{verdictReply, replied};
 ghost use Rattle.words.specs.Header.{isHeader, headerRefusals};
 use crate::Verdict;
-use crate::layout;
 use crate::agree;
+use crate::layout;
 use crate::word;
 use worker::refusal;
 

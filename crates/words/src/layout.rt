@@ -102,7 +102,8 @@ pub fn total(layout: u16, workers: u16, nodes: u16) -> usize
 pub fn good_counts(layout: u16, workers: u16, nodes: u16) -> bool
     ensures { λ r. ⌜ r ≡ goodCounts layout workers nodes ⌝ }
 {
-    ((LAYOUT_1 <= layout) & (layout <= LAYOUT_2)) & ((1 <= workers) & (workers <= 8))
+    ((LAYOUT_1 <= layout) & (layout <= LAYOUT_2))
+        & ((1 <= workers) & (workers <= 8))
         & ((3 <= nodes) & (nodes <= 1024))
 }
 

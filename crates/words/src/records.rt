@@ -55,7 +55,6 @@ pub fn write_worker(arena: &mut [u16], number: u16, worker: Worker)
     write(arena, layout::worker_from(number), &words);
 }
 
-
 // Where a field of a node stands in an arena.
 pub fn node_from(arena: &[u16], node: u16, field: u16) -> usize
     ensures { λ r. ⌜ r ≡ nodeFrom (now (arena .entry)) node field ⌝ }

@@ -149,7 +149,8 @@ fn first_stage(operation: u16) -> u16
 pub fn is_call(lengths: bool, operation: u16, key: u16, length: u16) -> bool
     ensures { λ r. ⌜ r ≡ isCall lengths operation key length ⌝ }
 {
-    is_within(operation, Worker::ADD, Worker::CONTAINS) & is_key(key)
+    is_within(operation, Worker::ADD, Worker::CONTAINS)
+        & is_key(key)
         & carries(lengths, operation, key, length)
 }
 

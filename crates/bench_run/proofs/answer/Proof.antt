@@ -5,6 +5,7 @@ use native.Mathlib.Omega.{arith}
 use denote.Ref.{now}
 use lib.ListN.{length, replicate, length-replicate}
 use borrow.Author.Needs.{needs}
+use Rattle.bench_input.specs.Input.{entryWidth}
 use Rattle.bench_run.proofs.OutputLaws.{bad-text, plan-fits, plan-text}
 use Rattle.bench_run.proofs.answer.Statement.{statement}
 use Rattle.bench_run.proofs.answer.Tie as tie
@@ -16,7 +17,7 @@ inside c =
     let fits = plan-fits (now (args .input)) (c .before .before .before .before .plan .given .0 .0) (parse .last .1 .0) (sym (c .before
     .before .before .before .plan .given .1) ∙ parse .ensures .0)
     (parse .ensures .1) in
-    let lent : length {A = ℕ} (replicate 12000 0) ≡ 12000 = length-replicate {A = ℕ} 12000 0 in
+    let lent : length {A = ℕ} (replicate 16000 0) ≡ 16000 = length-replicate {A = ℕ} 16000 0 in
     omega (arith, parse .kept)
 
 bad : tie.Need-returns
@@ -32,7 +33,7 @@ planned c =
     .args in
     let parse = c .before .before .before .before .before .before .before .before .before .before .before .parse in
     let plan = c .before .before .before .before .before .before .before .before .plan .given .0 .0 in
-    let end : 3 * plan .entries - 0 ≡ 3 * plan .entries = omega arith in
+    let end : entryWidth * plan .entries - 0 ≡ entryWidth * plan .entries = omega arith in
     rw (← plan-text (now (args .input)) plan (parse .last .1 .0) (sym (c .before .before .before .before .before .before .before .before
     .plan .given .1) ∙ parse .ensures .0) (parse .ensures .1))
     (rw end at (c .before .before .print-schedule .ensures))

@@ -5,7 +5,7 @@ use native.Mathlib.Omega.{arith}
 use denote.Ref.{now}
 use lib.ListN.{length, replicate, length-replicate}
 use borrow.Author.Needs.{needs}
-use Rattle.words.specs.Layout.{layoutNumber, total}
+use Rattle.words.specs.Layout.{layout2, total}
 use Rattle.schedule.specs.Run.{summaryReply, runAnswer}
 use Rattle.schedule.specs.declared.Summary.the-variants as summary
 use Rattle.bench_print.proofs.PrintLaws.{printed-then}
@@ -50,7 +50,7 @@ ready c κs =
     let told = c .before .before .before .before .before .before .before .before .before .before .before .before .before in
     let args = told .before .before .before .before .before .before .before .before .before .args in
     let totals = told .summary2 .given .0 .0 in
-    let end : c .before .before .before .total .result - 0 ≡ total layoutNumber (args .workers) (args .nodes) = omega (arith, c .before .before .before .total .ensures) in
+    let end : c .before .before .before .total .result - 0 ≡ total layout2 (args .workers) (args .nodes) = omega (arith, c .before .before .before .total .ensures) in
     rw (
       end,
       c .before .before .before .before .before .before .before .before .before .before .before .before .before .before .before .before .before .before .run-thousand .ensures .1 .0,
@@ -64,7 +64,7 @@ printed c =
     let args = told .before .before .before .before .before .before .before .before .before .args in
     let totals = told .summary2 .given .0 .0 in
     let ran = c .before .before .before .before .before .before .before .before .before .before .before .before .before .before .before .before .before .before .before .before .before .run-thousand .ensures in
-    let end : c .before .before .before .before .before .before .total .result - 0 ≡ total layoutNumber (args .workers) (args .nodes) = omega (arith, c .before .before .before .before .before .before .total .ensures) in
+    let end : c .before .before .before .before .before .before .total .result - 0 ≡ total layout2 (args .workers) (args .nodes) = omega (arith, c .before .before .before .before .before .before .total .ensures) in
     rw (← whole-text (args .workers) (args .nodes) (now (args .schedule)) totals (done told) (ran .1 .1 .0) (ran .1 .1 .1 .0) (ran .1 .0) end)
     (printed-then (printed-then (c .before .before .before .before .before .before .before .before .before .before .before .before .before .print-totals .ensures) (c .before .before .before .before .before .before .before .before .before .print-calls .ensures)) (c .before .before .print-keys .ensures))
 
