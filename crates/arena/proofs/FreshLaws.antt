@@ -1,7 +1,7 @@
 -- Laws of a fresh arena.
 use Prim.Native.Nat.{ℕ, suc, _+_, _*_, _-_, _≤_}
 use mathlib.Core.Path.{_≡_, refl, ap, _∙_}
-use mathlib.Core.List.{List, [], _++_, flatten}
+use mathlib.Core.List.{List, [], _++_}
 use mathlib.Core.Bool.{true}
 use native.Mathlib.Omega.{arith}
 use native.Mathlib.Decide.{ℕ-discrete}
@@ -15,12 +15,12 @@ use Rattle.words.specs.Layout.{headerWidth, workerFrom, slot, nodeKey, nodeNext
 use Rattle.words.specs.Records.{workerWords, nodeWords}
 use Rattle.words.specs.Replies.{accepted, replied}
 use Rattle.words.specs.Header.{isHeader, headerRefusals}
-use Rattle.arena.specs.Init.{freshWorkers, freshNodes, freshWords, initRefusals}
 use Rattle.words.proofs.Bounds.{counts, narrow}
 use Rattle.words.proofs.HeaderLaws.{header-of-some}
 use Rattle.words.proofs.Judged.{none-holds}
 use Rattle.words.proofs.RecordLaws.{node-long}
 use Rattle.words.proofs.Runs.{sets-append, length-copies, flat-copies}
+use Rattle.arena.specs.Init.{freshWorkers, freshNodes, freshWords, initRefusals}
 
 -- the nodes begin where the workers end
 pub nodes-place : (layout workers nodes : ℕ) → length (headerWords layout workers nodes ++ freshWorkers workers) ≡ workerFrom workers

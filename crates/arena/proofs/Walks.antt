@@ -13,12 +13,12 @@ use lib.Dec.{ltb, eqb}
 use borrow.Author.Tests.{eq-eqb, ne-eqb, lt-ltb, le-ltb, ltb-true, not-true, not-false}
 use Rattle.worker.specs.Node.{head, tail}
 use Rattle.worker.specs.declared.Node.{Node}
-use Rattle.words.specs.Records.{nodeAt, keyAt, nextAt}
 use Rattle.worker.specs.Refusals.{brokenChain, noRoom, judged}
+use Rattle.words.specs.Records.{nodeAt, keyAt, nextAt}
 use Rattle.words.specs.Replies.{refused, accepted, replied}
 use Rattle.words.proofs.Judged.{none-holds, given-values, refused-first, accepted-first}
-use Rattle.arena.specs.Snapshot.{walk, chain, chainKeys, chainBroken, chainTooLong, chainRefusals, isNone}
 use Rattle.words.proofs.Runs.{sets-whole}
+use Rattle.arena.specs.Snapshot.{walk, chain, chainKeys, chainBroken, chainTooLong, chainRefusals, isNone}
 use Rattle.arena.proofs.ShortChains.{chain-few}
 
 -- with a step left, one is less after it

@@ -6,9 +6,9 @@ use lib.ListN.{length, drop, replicate}
 use lib.Dec.{ltb}
 use Rattle.worker.specs.Node.{headNode, tailNode, unusedNode}
 use Rattle.worker.specs.Worker.{idleWorker}
+use Rattle.worker.specs.Refusals.{Refusal, badCounts, shortArena}
 use Rattle.words.specs.Layout.{nodeWidth, goodCounts, headerWords, total}
 use Rattle.words.specs.Records.{workerWords, nodeWords}
-use Rattle.worker.specs.Refusals.{Refusal, badCounts, shortArena}
 use Rattle.words.specs.Replies.{Reply, replied, written}
 
 -- the worker records of a fresh arena: idle

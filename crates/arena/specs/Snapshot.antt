@@ -6,9 +6,9 @@ use mathlib.Core.Option.{Option, none, some, Option·map, Option·getD}
 use lib.ListN.{length, drop}
 use lib.Dec.{ltb, eqb}
 use Rattle.worker.specs.Node.{head, tail}
+use Rattle.worker.specs.Refusals.{Refusal, brokenChain, noRoom}
 use Rattle.words.specs.Layout.{nodesOf, layoutOf, nodeWidth, nodePart}
 use Rattle.words.specs.Records.{keyAt, nextAt}
-use Rattle.worker.specs.Refusals.{Refusal, brokenChain, noRoom}
 use Rattle.words.specs.Replies.{Reply, refused, accepted, replied, written}
 use Rattle.words.specs.Header.{headerRefusals}
 use Rattle.arena.specs.declared.Listing.{Listing}

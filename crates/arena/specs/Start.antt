@@ -4,9 +4,9 @@ use mathlib.Core.List.{List, [], _∷_, _++_}
 use mathlib.Core.Bool.{not}
 use lib.Dec.{leb, ltb, eqb}
 use Rattle.worker.specs.Worker.{isCall, idleStage, lastStage, startedWorker}
+use Rattle.worker.specs.Refusals.{Refusal, noSuchWorker, brokenRecord, busy, badCall}
 use Rattle.words.specs.Layout.{nodeWidth, hasLength, layoutOf, workersOf}
 use Rattle.words.specs.Records.{workerAt, withWorker}
-use Rattle.worker.specs.Refusals.{Refusal, noSuchWorker, brokenRecord, busy, badCall}
 use Rattle.words.specs.Replies.{Reply, replied, written}
 use Rattle.words.specs.Header.{headerRefusals}
 

@@ -14,10 +14,10 @@ use Rattle.worker.specs.Refusals.{Refusal, judged}
 use Rattle.worker.proofs.Laws.{range-bounds}
 use Rattle.words.specs.Replies.{Reply, refused, accepted, replied}
 use Rattle.words.specs.Layout.{layout2}
-use Rattle.arena.specs.Init.{freshWords}
-use Rattle.arena.specs.Snapshot.{keysOf}
 use Rattle.words.proofs.Bounds.{counts}
 use Rattle.words.proofs.Judged.{judged-refused, judged-accepted}
+use Rattle.arena.specs.Init.{freshWords}
+use Rattle.arena.specs.Snapshot.{keysOf}
 use Rattle.arena.proofs.ShortChains.{keys-few}
 use Rattle.linear.specs.Lists.{filter}
 use Rattle.linear.specs.Entries.{Entry, isTurn}

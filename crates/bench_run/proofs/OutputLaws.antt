@@ -15,13 +15,13 @@ use Rattle.worker.specs.declared.report.Turned.the-variants as turned
 use Rattle.words.specs.Layout.{layout2, nodeWidth, goodCounts, total}
 use Rattle.words.specs.Records.{withWorker}
 use Rattle.words.specs.Replies.{refused, accepted, replied}
+use Rattle.words.proofs.Bounds.{counts}
+use Rattle.words.proofs.Judged.{judged-refused, judged-accepted, given-values}
 use Rattle.arena.specs.Init.{freshWords}
 use Rattle.arena.specs.Start.{startRefusals, startArena}
 use Rattle.arena.specs.Snapshot.{keysOf, snapshotRefusals}
-use Rattle.words.proofs.Bounds.{counts}
 use Rattle.arena.proofs.FreshLaws.{fresh-length}
-use Rattle.words.proofs.Judged.{judged-refused, judged-accepted, given-values}
-use Rattle.lazy.specs.Turn.{turnOn, withEffect, turnedArena, turnArena}
+use Rattle.lazy.specs.Turn.{turnOn, turnedArena, turnArena}
 use Rattle.linear.specs.Entries.{Entry, isTurn, after}
 use Rattle.linear.specs.History.{arenaAt, totals}
 use Rattle.linear.proofs.Words.{effect-long}
@@ -37,8 +37,8 @@ use Rattle.history.specs.Rows.{noCall, noWait}
 use Rattle.bench_input.specs.declared.Plan.{Plan}
 use Rattle.bench_input.specs.declared.Parsed.the-variants as parsed
 use Rattle.bench_input.specs.Input.{entryWidth, Reading, planned, badLine, readingOf, parsedOf, scheduled}
-use Rattle.bench_print.specs.Print.{badLineText, refusedText, totalsText, rollText}
 use Rattle.bench_input.proofs.PlanLaws.{Fits, planned-sound, planned-words}
+use Rattle.bench_print.specs.Print.{badLineText, refusedText, totalsText, rollText}
 use Rattle.bench_run.proofs.RollLaws.{roll-fits}
 use Rattle.bench_run.specs.Output.{arenaWords, recordCount, waitCount, callsText, runText, scheduleText, readingText, outputOf}
 

@@ -10,9 +10,9 @@ use Rattle.worker.proofs.RefusalLaws.{NoneHolds, judged-append, none-accepts}
 use Rattle.words.specs.Layout.{layoutOf, nodesOf, nodeWidth, nodePart}
 use Rattle.words.specs.Replies.{refused, accepted, replied}
 use Rattle.words.specs.Header.{headerRefusals}
-use Rattle.arena.specs.Snapshot.{chainBroken, chainTooLong, chainRefusals, keysOf, snapshotRefusals, snapshotAnswer, snapshotWords}
 use Rattle.words.proofs.Bounds.{counts}
 use Rattle.words.proofs.Judged.{judged-accepted}
+use Rattle.arena.specs.Snapshot.{chainBroken, chainTooLong, chainRefusals, keysOf, snapshotRefusals, snapshotAnswer, snapshotWords}
 use Rattle.arena.proofs.ShortChains.{keys-few}
 use Rattle.linear.specs.Sets.{ChainWhole}
 use Rattle.linear.proofs.Members.{whole}

@@ -24,10 +24,10 @@ use Rattle.arena.specs.Init.{freshWords, initRefusals, initAnswer}
 use Rattle.arena.specs.Start.{callRefusals, startRefusals, startAnswer}
 use Rattle.arena.specs.Snapshot.{chainBroken, chainTooLong, chainRefusals, snapshotRefusals, snapshotAnswer}
 use Rattle.lazy.specs.Turn.{outcomeReply, outcomeOf, seenBy, workerRefusals, turnOn, turnAnswer}
+use Rattle.linear.specs.Linearizable.{Linearizable}
 use Rattle.schedule.specs.Run.{entriesOf, runRefusals, runAnswer, summaryReply, DoneLinearizable}
 use Rattle.schedule.specs.declared.Summary.{Summary}
 use Rattle.schedule.specs.declared.Summary.the-variants as summary
-use Rattle.linear.specs.Linearizable.{Linearizable}
 use Rattle.capi.specs.Number.{replyNumber, unreported, reportIn, valueIn, secondIn, Reads, Readable, Fitting, bare}
 
 -- three numbers in their places, read back

@@ -9,8 +9,8 @@ use lib.ListN.{length, getD, drop, length-append, length-drop}
 use Rattle.worker.specs.Refusals.{Refusal, judged}
 use Rattle.words.specs.Replies.{replied}
 use Rattle.words.specs.Layout.{layout2}
-use Rattle.arena.specs.Init.{freshWords}
 use Rattle.words.proofs.Judged.{judged-refused, judged-accepted, given-values}
+use Rattle.arena.specs.Init.{freshWords}
 use Rattle.linear.specs.History.{totals}
 use Rattle.schedule.specs.declared.Totals.{Totals}
 use Rattle.schedule.specs.declared.Summary.{Summary}

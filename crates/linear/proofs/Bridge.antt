@@ -19,8 +19,8 @@ use Rattle.words.specs.Layout.{layoutOf, workersOf, nodesOf}
 use Rattle.words.specs.Records.{workerAt}
 use Rattle.words.specs.Replies.{Reply, refused, accepted, replied}
 use Rattle.words.specs.Header.{headerRefusals}
-use Rattle.arena.specs.Start.{callRefusals, startRefusals, startArena}
 use Rattle.words.proofs.Judged.{none-holds, judged-refused, judged-accepted}
+use Rattle.arena.specs.Start.{callRefusals, startRefusals, startArena}
 use Rattle.lazy.specs.Free.{rootsOf}
 use Rattle.lazy.specs.Turn.{outcomeOf, seenOf, seenBy, workerRefusals, turnOn, withEffect, turnedArena, turnArena}
 use Rattle.lazy.proofs.InsideLaws.{effect-below}

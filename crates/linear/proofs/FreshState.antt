@@ -13,11 +13,11 @@ use Rattle.worker.specs.Worker.{idleWorker}
 use Rattle.words.specs.Layout.{word, workerFrom, workerWidth, slot, goodCounts, headerWords, nodeWidth, nodeKey, nodeNext, nodeOwner, nodeFrom}
 use Rattle.words.specs.Records.{workerWords, nodeWords, nodeAt}
 use Rattle.words.specs.Header.{headerRefusals}
-use Rattle.arena.specs.Init.{freshWorkers, freshNodes, freshWords}
 use Rattle.words.proofs.Bounds.{Counts, counts, wide, narrow}
 use Rattle.words.proofs.Judged.{none-holds}
 use Rattle.words.proofs.HeaderLaws.{Header}
 use Rattle.words.proofs.RecordLaws.{node-long}
+use Rattle.arena.specs.Init.{freshWorkers, freshNodes, freshWords}
 use Rattle.arena.proofs.FreshLaws.{nodes-place, fresh-header}
 use Rattle.linear.proofs.State.{State, decode}
 use Rattle.linear.proofs.Words.{fieldIn, field-word, no-field}

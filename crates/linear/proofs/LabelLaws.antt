@@ -11,7 +11,7 @@ use native.Mathlib.Decide.{ℕ-discrete}
 use lib.Dec.{ltb, eqb}
 use borrow.Author.Tests.{eqb-true, eqb-false, eq-eqb, ne-eqb, ltb-true, ltb-false}
 use Rattle.arena.specs.Snapshot.{isNone}
-use Rattle.linear.specs.Lists.{filter, Each, none as nothing, _and_, Pairs, alone, _ahead_}
+use Rattle.linear.specs.Lists.{filter, Each, none as nothing, _and_, alone, _ahead_}
 use Rattle.linear.specs.Sets.{Label, Rising, member}
 use Rattle.linear.specs.Sequential.{including, excluding}
 use Rattle.linear.proofs.ListLaws.{each-in, each-of, pairs-filter}

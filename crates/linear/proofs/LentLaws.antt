@@ -6,8 +6,8 @@ use mathlib.Core.Bool.{true}
 use lib.ListN.{drop}
 use Rattle.words.specs.Layout.{total, goodCounts, headerWords}
 use Rattle.words.specs.Replies.{accepted}
-use Rattle.arena.specs.Init.{freshWords, initRefusals, initAnswer, initArena}
 use Rattle.words.proofs.Judged.{judged-accepted}
+use Rattle.arena.specs.Init.{freshWords, initRefusals, initAnswer, initArena}
 use Rattle.arena.proofs.FreshLaws.{init-passed}
 use Rattle.linear.specs.Entries.{Entry, eventOf, after}
 use Rattle.linear.specs.History.{entryAt, arenaAt, eventAt}

@@ -1,5 +1,5 @@
 -- An arena with further words behind it: entries come to the same, and the further words stay.
-use Prim.Native.Nat.{ℕ, suc, _+_, _-_, _≤_, _<_}
+use Prim.Native.Nat.{ℕ, suc, _+_, _-_, _<_}
 use mathlib.Core.Path.{_≡_, refl, sym, ap, _∙_, fun-ext}
 use mathlib.Core.List.{List, [], _++_}
 use mathlib.Core.Bool.{Bool, true, false, cond}
@@ -24,12 +24,12 @@ use Rattle.words.specs.Layout.{word, headerWidth, workerFrom, nodeWidth, layout
 use Rattle.words.specs.Records.{workerAt, workerWords, withWorker, nodeWords, withNode, nodeAt}
 use Rattle.words.specs.Replies.{Reply, refused, accepted, replied}
 use Rattle.words.specs.Header.{headerRefusals}
-use Rattle.arena.specs.Start.{callRefusals, startRefusals, startArena}
 use Rattle.words.proofs.Bounds.{wide, narrow}
 use Rattle.words.proofs.HeaderLaws.{Header}
 use Rattle.words.proofs.Judged.{none-holds, judged-refused, judged-accepted}
 use Rattle.words.proofs.RecordLaws.{node-long}
 use Rattle.words.proofs.Runs.{sets-front}
+use Rattle.arena.specs.Start.{callRefusals, startRefusals, startArena}
 use Rattle.lazy.specs.Turn.{outcomeOf, seenOf, seenBy, turnOn, withEffect, turnedArena, turnArena}
 use Rattle.lazy.proofs.TurnLaws.{turn-accepted}
 use Rattle.lazy.proofs.InsideLaws.{effect-below, field-inside}

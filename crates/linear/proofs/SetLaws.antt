@@ -1,16 +1,15 @@
 -- Laws of the set of an arena.
 use Prim.Native.Nat.{ℕ, zero, suc, _+_, _≤_, _<_}
-use mathlib.Core.Path.{_≡_, refl, sym, ap, _∙_}
+use mathlib.Core.Path.{_≡_, refl, sym, _∙_}
 use mathlib.Core.Logic.{_≢_, _↔_, ⊎-elim}
 use mathlib.Core.List.{List, [], _∷_, List·Memᴰ, List·Memᴰ·head, List·Memᴰ·tail, List·Memᴰ·not-nil, List·Memᴰ·cases-cons, Memᴰ·cast}
-use mathlib.Core.Bool.{Bool, true, false, not, _&&_, _||_, and-false, true≢false}
+use mathlib.Core.Bool.{true, false, not, _&&_, true≢false}
 use mathlib.Core.Option.{Option, none, some, Option·map, Option·getD, Option·none-ne-some}
-use mathlib.Mathlib.Data.Bool.Basic.{dichotomy, or-inl, or-inr, and-elim-left, and-elim-right}
-use mathlib.Mathlib.Data.Bool.Basic.{eq-false-eq-not-eq-true, or-eq-false-eq-eq-false-and-eq-false}
+use mathlib.Mathlib.Data.Bool.Basic.{dichotomy, and-elim-left, and-elim-right}
 use native.Mathlib.Omega.{arith}
 use native.Mathlib.Decide.{ℕ-discrete}
-use lib.Dec.{ltb, eqb}
-use borrow.Author.Tests.{eqb-true, eqb-false, eq-eqb, ne-eqb, ltb-true, ltb-false, lt-ltb}
+use lib.Dec.{ltb}
+use borrow.Author.Tests.{eqb-true, eq-eqb, ne-eqb, ltb-true, lt-ltb}
 use Rattle.worker.specs.Node.{head, tail}
 use Rattle.words.specs.Layout.{layoutOf, nodesOf, nodeWidth, nodePart}
 use Rattle.words.specs.Records.{keyAt, nextAt}

@@ -7,6 +7,7 @@ use mathlib.Core.Bool.{true, false, true≢false}
 use mathlib.Core.Option as option
 use native.Mathlib.Omega.{arith}
 use Rattle.worker.specs.Refusals.{noSuchWorker, brokenRecord, brokenChain}
+use Rattle.worker.specs.declared.report.Report.{Report}
 use Rattle.words.specs.Layout.{goodCounts}
 use Rattle.arena.specs.Init.{freshWords}
 use Rattle.linear.specs.Lists.{filter, Pairs}
@@ -27,7 +28,6 @@ use Rattle.linear.proofs.Members.{whole}
 use Rattle.linear.proofs.Timeline.{sound, Begun, begun-at, label, start, entered-at, always, Schedule, freshSchedule, arena, state, last, starts-at, call-at, calls-of, in-order-of}
 use Rattle.linear.proofs.Rests.{all-rest}
 use Rattle.linear.proofs.Keys.{absent-of, not-found}
-use Rattle.worker.specs.declared.report.Report.{Report}
 use Rattle.linear.proofs.Points.{Fate, fate}
 use Rattle.linear.proofs.Tellings.{Telling, told-answer}
 use Rattle.linear.proofs.Calls.{Told, open-yet, pointed, told, own-points}

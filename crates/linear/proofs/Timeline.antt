@@ -14,9 +14,9 @@ use Rattle.worker.specs.declared.report.Report.{Report}
 use Rattle.worker.specs.declared.report.Step.{Step}
 use Rattle.worker.proofs.TurnLaws.{step-row}
 use Rattle.words.specs.Layout.{goodCounts, nodeWidth, hasLength}
-use Rattle.arena.specs.Init.{freshWords}
 use Rattle.words.specs.Records.{workerAt}
 use Rattle.words.proofs.Bounds.{counts}
+use Rattle.arena.specs.Init.{freshWords}
 use Rattle.linear.specs.Sets.{member, setOf}
 use Rattle.linear.specs.Entries.{Entry, Event, callStarted, turnReported, entryRefused, isStarted, isReported, isFinished, eventOf}
 use Rattle.linear.specs.History.{Call, entryAt, arenaAt, eventAt, decidesAt, finishesAt, startsAt, callAt, calls}

@@ -5,8 +5,8 @@ use mathlib.Core.Logic.{_≢_}
 use mathlib.Core.List.{List, []}
 use borrow.Author.Tests.{ne-eqb}
 use Rattle.words.specs.Replies.{refused, accepted}
-use Rattle.arena.specs.Start.{startRefusals, startAnswer, startArena}
 use Rattle.words.proofs.Judged.{judged-refused, judged-accepted}
+use Rattle.arena.specs.Start.{startRefusals, startAnswer, startArena}
 use Rattle.lazy.specs.declared.Outcome.{Outcome}
 use Rattle.lazy.specs.Turn.{outcomeReply, turnAnswer, turnArena}
 use Rattle.lazy.proofs.TurnLaws.{answer-told}

@@ -10,8 +10,8 @@ use borrow.Author.Tests.{ltb-true, ltb-false, eqb-true, not-false, lt-ltb, le-lt
 use Rattle.worker.specs.Refusals.{judged}
 use Rattle.words.specs.Layout.{layout2, goodCounts, total}
 use Rattle.words.specs.Replies.{accepted, replied}
-use Rattle.arena.specs.Init.{freshWords}
 use Rattle.words.proofs.Judged.{none-holds}
+use Rattle.arena.specs.Init.{freshWords}
 use Rattle.linear.specs.Entries.{Entry, isTurn}
 use Rattle.linear.specs.History.{totals, calls, waits}
 use Rattle.linear.proofs.Waiting.{waits-counted}

@@ -27,8 +27,8 @@ use Rattle.linear.proofs.After.{own-after}
 use Rattle.linear.proofs.Course.{Row, isMoved, goes-in, goes-out, present, missing, late, Course, rests, goes-on, settles, ends}
 use Rattle.linear.proofs.Keys.{has-kept, has-added, has-taken}
 use Rattle.linear.proofs.Timeline.{Schedule, has, arena, state, entry, outcome, own-worker, turn-known, always}
-use Rattle.schedule.specs.Book.{looksUp, missed, takesOut}
 use Rattle.linear.proofs.Times.{first-kept, first-same, first-now}
+use Rattle.schedule.specs.Book.{looksUp, missed, takesOut}
 
 -- a word that may have been written, at another place and at its own
 length-either : (test : Bool) (words : List ℕ) (v time : ℕ) → length (cond test (set words v time) words) ≡ length words

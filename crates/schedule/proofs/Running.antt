@@ -24,7 +24,7 @@ use Rattle.linear.proofs.Members.{whole}
 use Rattle.linear.proofs.Timeline.{freshSchedule, Schedule, Happens, nothing, start, turn, happens, arena, state, entry, outcome-is, starts-at, sound, always, last}
 use Rattle.linear.proofs.Waiting.{starts}
 use Rattle.schedule.specs.declared.book.Book.{Book}
-use Rattle.schedule.specs.Run.{entryWidth, entryOf, entriesOf, isOperation, countIn, recordOf, recordsOf, waitOf, waitsOf, told, totalsOf}
+use Rattle.schedule.specs.Run.{entryWidth, entriesOf, isOperation, countIn, recordOf, recordsOf, waitOf, waitsOf, told, totalsOf}
 use Rattle.schedule.specs.Run.{callWidth, callWords, waitWidth, waitWords, flatWords}
 use Rattle.schedule.specs.Book.{newBook, isBroken, Roomy, bookAfter, callsAfter, waitsAfter}
 use Rattle.schedule.proofs.EntryLaws.{entryFrom, entry-at, entries-count, start-silent}

@@ -5,8 +5,8 @@ use mathlib.Core.List.{List, [], _∷_}
 use mathlib.Core.Bool.{Bool, true, not, _&&_, _||_}
 use lib.ListN.{length, take}
 use lib.Dec.{ltb, eqb}
-use Rattle.words.specs.Layout.{word, headerWidth, goodCounts, headerWords, layoutOf, workersOf, nodesOf, totalOf}
 use Rattle.worker.specs.Refusals.{Refusal, shortArena, oddHeader}
+use Rattle.words.specs.Layout.{word, headerWidth, goodCounts, headerWords, layoutOf, workersOf, nodesOf, totalOf}
 
 -- the words from a place on are these
 abbrev pub agrees : List ℕ → ℕ → List ℕ → Bool

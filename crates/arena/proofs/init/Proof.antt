@@ -4,8 +4,8 @@ use mathlib.Core.List.{[]}
 use denote.Ref.{now}
 use borrow.Author.Needs.{needs}
 use Rattle.words.specs.Replies.{verdictReply}
-use Rattle.arena.specs.Init.{initRefusals, initAnswer, initArena}
 use Rattle.words.proofs.Judged.{judged-refused, judged-accepted}
+use Rattle.arena.specs.Init.{initRefusals, initAnswer, initArena}
 use Rattle.arena.proofs.FreshLaws.{init-passed, init-words}
 use Rattle.arena.proofs.init.Statement.{statement}
 use Rattle.arena.proofs.init.Tie as tie

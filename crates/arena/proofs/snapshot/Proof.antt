@@ -8,9 +8,9 @@ use borrow.Author.Needs.{needs}
 use Rattle.words.specs.Layout.{nodeWidth, nodePart, layoutOf, nodesOf}
 use Rattle.words.specs.Replies.{verdictReply, accepted as granted, replied}
 use Rattle.words.specs.Header.{headerRefusals}
-use Rattle.arena.specs.Snapshot.{chainRefusals, keysOf, snapshotRefusals, snapshotAnswer, snapshotWords}
 use Rattle.words.proofs.Judged.{refused-first, accepted-first}
 use Rattle.words.proofs.HeaderLaws.{Header, header-holds}
+use Rattle.arena.specs.Snapshot.{chainRefusals, keysOf, snapshotRefusals, snapshotAnswer, snapshotWords}
 use Rattle.arena.proofs.snapshot.Statement.{statement}
 use Rattle.arena.proofs.snapshot.Tie as tie
 

@@ -4,8 +4,8 @@ use mathlib.Core.List.{[]}
 use denote.Ref.{now}
 use borrow.Author.Needs.{needs}
 use Rattle.words.specs.Replies.{verdictReply}
-use Rattle.arena.specs.Start.{startRefusals, startAnswer, startArena}
 use Rattle.words.proofs.Judged.{judged-refused, judged-accepted}
+use Rattle.arena.specs.Start.{startRefusals, startAnswer, startArena}
 use Rattle.arena.proofs.start.Statement.{statement}
 use Rattle.arena.proofs.start.Tie as tie
 

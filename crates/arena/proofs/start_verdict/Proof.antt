@@ -5,8 +5,8 @@ use denote.Ref.{now}
 use borrow.Author.Needs.{needs}
 use Rattle.words.specs.Replies.{verdictReply}
 use Rattle.words.specs.Header.{headerRefusals}
-use Rattle.arena.specs.Start.{callRefusals, startRefusals}
 use Rattle.words.proofs.Judged.{refused-first, accepted-first}
+use Rattle.arena.specs.Start.{callRefusals, startRefusals}
 use Rattle.arena.proofs.start_verdict.Statement.{statement}
 use Rattle.arena.proofs.start_verdict.Tie as tie
 
