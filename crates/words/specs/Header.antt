@@ -13,7 +13,7 @@ abbrev pub agrees : List ℕ → ℕ → List ℕ → Bool
 agrees words at [] = true
 agrees words at (v ∷ vs) = eqb (word words at) v && agrees words (suc at) vs
 
--- the header test: the 8 words are the header of the counts that stand in them
+-- the header test: the 8 words are the header of the layout and the counts that stand in them
 unfoldable pub isHeader : List ℕ → Bool
 isHeader arena =
     goodCounts (layoutOf arena) (workersOf arena) (nodesOf arena)

@@ -32,7 +32,7 @@ workerAt arena worker =
 unfoldable pub withWorker : List ℕ → ℕ → Worker → List ℕ
 withWorker arena worker w = sets arena (workerFrom worker) (workerWords w)
 
--- a place outside the record of a worker: a start writes no such word (`RecordLaws.start-writes`)
+-- a place outside the record of a worker: a start writes no such word (`StartLaws.start-writes` of `arena`)
 abbrev pub Outside : ℕ → ℕ → Type 0
 Outside worker at = (at < workerFrom worker) ⊎ (workerFrom worker + workerWidth ≤ at)
 

@@ -10,7 +10,7 @@ pub data Reply : Type 0 where
   refused : ℕ → Reply
   accepted : List ℕ → Reply
 
--- what each case of an answer says
+-- what each case of a verdict says
 abbrev pub verdictReply : Verdict → Reply
 verdictReply verdict.Accepted = accepted []
 verdictReply (verdict.Refused number) = refused number
