@@ -3,6 +3,7 @@ use crate::print::end_line;
 use crate::print::show_words;
 use crate::turns::call;
 use crate::turns::show_outcome;
+use words::layout::LAYOUT_1;
 use words::put;
 use worker::Worker;
 
@@ -16,7 +17,7 @@ pub fn searches() {
 
 fn circle(text: &[u8], operation: u16, key: u16) {
     let mut arena = [0u16; 32];
-    arena::init(&mut arena, 1, 4);
+    arena::init(&mut arena, LAYOUT_1, 1, 4);
     arena[17] = 2;
     arena[24] = 3;
     arena[25] = 3;
@@ -40,7 +41,7 @@ pub fn hunts() {
 
 fn hunt(text: &[u8], at: usize, word: u16, also_at: usize, also: u16) {
     let mut arena = [0u16; 36];
-    arena::init(&mut arena, 1, 5);
+    arena::init(&mut arena, LAYOUT_1, 1, 5);
     arena[8] = 14;
     arena[9] = Worker::ADD;
     arena[10] = 5;
@@ -57,7 +58,7 @@ fn hunt(text: &[u8], at: usize, word: u16, also_at: usize, also: u16) {
 // What stands in the way of a turn on an arena: too few words, an odd header, no such worker.
 pub fn arenas() {
     let mut arena = [0u16; 28];
-    arena::init(&mut arena, 1, 3);
+    arena::init(&mut arena, LAYOUT_1, 1, 3);
     refused(b"turn of worker 1:", &mut arena, 28, 1);
     refused(b"turn, 27 words:", &mut arena, 27, 0);
     refused(b"turn, 7 words, worker 9:", &mut arena, 7, 9);

@@ -4,13 +4,14 @@ use crate::print::show_word;
 use crate::print::show_words;
 use crate::turns::show_outcome;
 use lazy::Outcome;
+use words::layout::LAYOUT_1;
 use words::put;
 use worker::Worker;
 
 // One worker and four nodes: Head, then node 2 with key 5; node 3 is free. The worker stands at a stage, with pred 0, curr 2, spare 2.
 fn standing(stage: u16) -> [u16; 32] {
     let mut arena = [0u16; 32];
-    arena::init(&mut arena, 1, 4);
+    arena::init(&mut arena, LAYOUT_1, 1, 4);
     arena[8] = stage;
     arena[9] = operation_at(stage);
     arena[10] = 5;

@@ -1,6 +1,7 @@
 // Snapshots of whole and of broken chains.
 use crate::fresh;
 use crate::print::show_listing;
+use words::layout::LAYOUT_1;
 
 pub fn chains() {
     let empty = fresh();
@@ -52,7 +53,7 @@ pub fn longer() {
 // Five nodes, chained 0, 4, 2, 3, 1, the last with a key of choice.
 fn three(text: &[u8], last: u16, room: usize) {
     let mut words = [0u16; 36];
-    arena::init(&mut words, 1, 5);
+    arena::init(&mut words, LAYOUT_1, 1, 5);
     words[17] = 4;
     words[32] = 10;
     words[33] = 2;

@@ -23,12 +23,16 @@ pub fn headers() {
 fn header(text: &[u8], at: usize, word: u16, room: usize) {
     let mut words = fresh();
     words::put(&mut words, at, word);
-    start(text, &mut words, room);
+    start(text, &mut words, room, 0);
 }
 
-fn start(text: &[u8], words: &mut [u16], room: usize) {
+// An add of worker 0 on the first of the words.
+pub fn start(text: &[u8], words: &mut [u16], room: usize, length: u16) {
     if room <= words.len() {
-        show(text, arena::start(&mut words[0..room], 0, Worker::ADD, 5));
+        show(
+            text,
+            arena::start(&mut words[0..room], 0, Worker::ADD, 5, length),
+        );
     }
 }
 
@@ -53,6 +57,6 @@ pub fn records() {
 fn record(text: &[u8], stage: u16, number: u16, operation: u16, key: u16) {
     let mut words = fresh();
     words::put(&mut words, 8, stage);
-    show(text, arena::start(&mut words, number, operation, key));
+    show(text, arena::start(&mut words, number, operation, key, 0));
     show_words(b"  record of worker 0:", &words[8..16]);
 }

@@ -4,6 +4,7 @@ use crate::print::show_word;
 use lazy::Outcome;
 use worker::Answer;
 use worker::Report;
+use worker::Worker;
 
 pub fn show_outcome(outcome: Outcome) {
     match outcome {
@@ -50,11 +51,18 @@ fn show_answer(answer: Answer) {
     }
 }
 
-// A call from its start to its finish, or to its hundredth turn.
+// A call that carries no length, from its start to its finish, or to its hundredth turn.
 pub fn call(text: &[u8], arena: &mut [u16], worker: u16, operation: u16, key: u16) {
     io::write_all(1, text);
-    arena::start(arena, worker, operation, key);
+    arena::start(arena, worker, operation, key, 0);
     turns_to_finish(arena, worker);
+}
+
+// An add of worker 0 that carries one.
+pub fn add(text: &[u8], arena: &mut [u16], key: u16, length: u16) {
+    io::write_all(1, text);
+    arena::start(arena, 0, Worker::ADD, key, length);
+    turns_to_finish(arena, 0);
 }
 
 // How many turns, and the last one's report.

@@ -4,7 +4,7 @@ use mathlib.Core.List.{map, flatten}
 use Rattle.worker.specs.Stages.{stepOf}
 use Rattle.worker.specs.Turn.{belongs, kept, placed, astray, busyRefusals, turnRefusals, turnOf}
 use Rattle.words.specs.Layout.{nodeWidth, headerWords, nodePart, nodeFrom}
-use Rattle.words.specs.Records.{workerAt, withWorker, nodeAt}
+use Rattle.words.specs.Records.{workerAt, withWorker, withNode, nodeAt}
 use Rattle.words.specs.Header.{isHeader, headerRefusals}
 use Rattle.arena.specs.Init.{freshWorkers, freshNodes, freshWords, initRefusals, initAnswer, initArena}
 use Rattle.arena.specs.Start.{callRefusals, startRefusals, startAnswer, startArena}
@@ -13,5 +13,5 @@ use Rattle.lazy.specs.Turn.{seenOf, seenBy, workerRefusals, turnOn, withEffect,
 use Rattle.table.specs.Cases.{found, stated, cases}
 
 pub cases-hold : map found cases ≡ map stated cases
-unfolding flatten nodeWidth headerWords nodePart workerAt withWorker isHeader headerRefusals freshWorkers freshNodes freshWords initRefusals initAnswer initArena callRefusals startRefusals startAnswer startArena stepOf belongs kept placed astray busyRefusals turnRefusals turnOf nodeFrom nodeAt rootsOf leads reached lowestFrom lowestFree seenOf seenBy workerRefusals turnOn withEffect turnAnswer turnArena
+unfolding flatten nodeWidth headerWords nodePart workerAt withWorker withNode isHeader headerRefusals freshWorkers freshNodes freshWords initRefusals initAnswer initArena callRefusals startRefusals startAnswer startArena stepOf belongs kept placed astray busyRefusals turnRefusals turnOf nodeFrom nodeAt rootsOf leads reached lowestFrom lowestFree seenOf seenBy workerRefusals turnOn withEffect turnAnswer turnArena
 cases-hold = refl
