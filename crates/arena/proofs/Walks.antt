@@ -11,7 +11,7 @@ use lib.ListN.{length, take, drop, set, length-map}
 use lib.Seq.{sets, sets-eq, take-at, length-take-le}
 use lib.Dec.{ltb, eqb}
 use borrow.Author.Tests.{eq-eqb, ne-eqb, lt-ltb, le-ltb, ltb-true, not-true, not-false}
-use Rattle.worker.specs.Node.{head, tail}
+use Rattle.worker.specs.Node.{withoutLength, head, tail}
 use Rattle.worker.specs.declared.Node.{Node}
 use Rattle.worker.specs.Refusals.{brokenChain, noRoom, judged}
 use Rattle.words.specs.Records.{nodeAt, keyAt, nextAt}
@@ -42,7 +42,7 @@ module _ (width : ℕ) (nodes : List ℕ) (count : ℕ) where
   unfolding walk
   walk-end steps passed last node row h t = rw (less h, eq-eqb _ _ t, add-zero)
 
-  pub walk-break : (steps passed last node : ℕ) (row : List ℕ) (n : Node) → n ≡ nodeAt width nodes node →
+  pub walk-break : (steps passed last node : ℕ) (row : List ℕ) (n : Node) → n ≡ withoutLength (nodeAt width nodes node) →
       passed < steps → (node ≡ tail → ⊥) → not (ltb node count && ltb last (n .key)) ≡ true →
       gathered passed row (walk width nodes count (steps - passed) last node) ≡ none
   unfolding walk
@@ -50,7 +50,7 @@ module _ (width : ℕ) (nodes : List ℕ) (count : ℕ) where
       let stops : (ltb node count && ltb last (keyAt width nodes node)) ≡ false = not-true _ (rw e at k) in
       rw (less h, ne-eqb _ _ t, stops)
 
-  pub walk-on : (steps passed last node : ℕ) (row : List ℕ) (n : Node) → n ≡ nodeAt width nodes node →
+  pub walk-on : (steps passed last node : ℕ) (row : List ℕ) (n : Node) → n ≡ withoutLength (nodeAt width nodes node) →
       passed < steps → (node ≡ tail → ⊥) → not (ltb node count && ltb last (n .key)) ≡ false →
       gathered passed row (walk width nodes count (steps - passed) last node)
       ≡ gathered (passed + 1) (set row passed (n .key)) (walk width nodes count (steps - (passed + 1)) (n .key) (n .next))
@@ -64,7 +64,7 @@ module _ (width : ℕ) (nodes : List ℕ) (count : ℕ) where
   rises node last key k = ltb-true last key (and-eq-true-iff (ltb node count) (ltb last key) .0 (not-false _ k) .1)
 
   -- what the walk from Head says, where it breaks off and where it comes to Tail
-  module _ (row : List ℕ) (first : Node) (read : first ≡ nodeAt width nodes head) where
+  module _ (row : List ℕ) (first : Node) (read : first ≡ withoutLength (nodeAt width nodes head)) where
     pub broken : gathered 0 row (walk width nodes count 65536 (first .key) (first .next)) ≡ none → isNone (chain width nodes count) ≡ true
     unfolding chain
     broken e = go (walk width nodes count 65536 (keyAt width nodes head) (nextAt width nodes head)) (rw read at e)

@@ -2,7 +2,7 @@
 use Prim.Native.Nat.{ℕ}
 use mathlib.Core.List.{[], _∷_}
 use mathlib.Core.Bool.{Bool, cond, _||_}
-use Rattle.worker.specs.Node.{unusedNode}
+use Rattle.worker.specs.Node.{withoutLength, unusedNode}
 use Rattle.worker.specs.Worker.{among}
 use Rattle.worker.specs.declared.Node.{Node}
 use Rattle.worker.specs.declared.Worker.{Worker}
@@ -16,9 +16,9 @@ looksAtPred stage = among (2 ∷ 6 ∷ 8 ∷ 10 ∷ []) stage
 abbrev pub looksAtCurr : ℕ → Bool
 looksAtCurr stage = among (3 ∷ 13 ∷ 23 ∷ []) stage || among (5 ∷ 17 ∷ 24 ∷ []) stage || among (7 ∷ 9 ∷ 25 ∷ []) stage
 
--- a node, where it is looked at
+-- a node, where it is looked at; its length never is
 abbrev pub lookedAt : Bool → Node → Node
-lookedAt looks node = cond looks node unusedNode
+lookedAt looks node = cond looks (withoutLength node) unusedNode
 
 -- of all that a turn may see, what its stage looks at
 unfoldable pub sight : Worker → Seen → Seen

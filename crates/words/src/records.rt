@@ -2,6 +2,7 @@
 ghost use Prim.Native.Nat.{_+_};
 ghost use mathlib.Core.Path.{_≡_};
 ghost use lib.ListN.{set};
+ghost use Rattle.worker.specs.Node.{withoutLength};
 ghost use Rattle.words.specs.Records.{workerWords, workerAt, withWorker, withNode, nodeAt};
 ghost use Rattle.words.specs.Layout.{word, workerFrom, slot, nodeFrom};
 use crate::layout;
@@ -88,20 +89,9 @@ pub fn node_field(nodes: &[u16], width: u16, node: u16, field: u16) -> u16
     word(nodes, layout::slot(width, node, field))
 }
 
-// A length that has no word is 0.
-fn node_length(nodes: &[u16], width: u16, node: u16) -> u16
-    ensures { λ r. ⌜ r ≡ nodeAt width (now (nodes .entry)) node .length ⌝ }
-{
-    if layout::has_length(width) {
-        node_field(nodes, width, node, layout::NODE_LENGTH)
-    } else {
-        0
-    }
-}
-
-// One test serves a node that lies inside whole, but for its length, which few callers want.
+// A node but for its length. One test serves a node that lies inside whole.
 pub fn read_node(nodes: &[u16], width: u16, node: u16) -> Node
-    ensures { λ r. ⌜ r ≡ nodeAt width (now (nodes .entry)) node ⌝ }
+    ensures { λ r. ⌜ r ≡ withoutLength (nodeAt width (now (nodes .entry)) node) ⌝ }
 {
     if layout::slot(width, node, layout::NODE_OWNER) < nodes.len() {
         return Node {
@@ -109,7 +99,7 @@ pub fn read_node(nodes: &[u16], width: u16, node: u16) -> Node
             next: nodes[layout::slot(width, node, layout::NODE_NEXT)],
             mark: nodes[layout::slot(width, node, layout::NODE_MARK)],
             owner: nodes[layout::slot(width, node, layout::NODE_OWNER)],
-            length: node_length(nodes, width, node),
+            length: 0,
         };
     }
     Node {
@@ -117,6 +107,6 @@ pub fn read_node(nodes: &[u16], width: u16, node: u16) -> Node
         next: node_field(nodes, width, node, layout::NODE_NEXT),
         mark: node_field(nodes, width, node, layout::NODE_MARK),
         owner: node_field(nodes, width, node, layout::NODE_OWNER),
-        length: node_length(nodes, width, node),
+        length: 0,
     }
 }

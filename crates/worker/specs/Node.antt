@@ -16,6 +16,10 @@ noNode = 65535
 abbrev pub newNode : ℕ → ℕ → ℕ → Node
 newNode key next length = record { key = key; next = next; mark = 0; owner = 0; length = length }
 
+-- a node but for its length, which no turn and no walk along the chain looks at
+abbrev pub withoutLength : Node → Node
+withoutLength n = record { key = n .key; next = n .next; mark = n .mark; owner = n .owner; length = 0 }
+
 -- Head's key is 0 and its next 1, Tail's key 65,535 and its next 1; every length is 0
 abbrev pub headNode : Node
 headNode = newNode 0 tail 0

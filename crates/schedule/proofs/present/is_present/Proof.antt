@@ -1,11 +1,11 @@
 -- The invariant: the walk has passed nodes with lower keys, and those that are left decide.
 use Prim.Native.Nat.{ℕ, _-_, _<_}
-use mathlib.Core.Path.{_≡_, sym, subst, _∙_}
+use mathlib.Core.Path.{_≡_, sym, ap, subst, _∙_}
 use native.Mathlib.Omega.{arith}
 use lib.ListN.{take, drop}
 use denote.Ref.{now}
 use borrow.Author.Needs.{needs}
-use Rattle.worker.specs.Node.{head}
+use Rattle.worker.specs.Node.{withoutLength, head}
 use Rattle.worker.specs.declared.Node.{Node}
 use Rattle.words.specs.Records.{nodeAt}
 use Rattle.words.proofs.HeaderLaws.{Header, header-holds}
@@ -37,12 +37,13 @@ read : (c : tie.After-node-width Inv-loop μ-loop) {node : Node} (number : ℕ) 
     let arena = now (c .before .before .before .before .before .args .arena) in
     let from = c .before .before .before .word .result in
     let total = c .before .before .word2 .result in
-    node ≡ nodeAt (c .node-width .result) (take (total - from) (drop from arena)) number → node ≡ nodeIn arena number
+    node ≡ withoutLength (nodeAt (c .node-width .result) (take (total - from) (drop from arena)) number) →
+    node ≡ withoutLength (nodeIn arena number)
 read c number e =
     let end = c .before .before in
     e
-    ∙ read-in (now (end .before .before .before .args .arena)) (end .before .word .ensures) (end .word2 .ensures)
-    (c .node-width .ensures) (c .before .word3 .ensures) number
+    ∙ ap withoutLength (read-in (now (end .before .before .before .args .arena)) (end .before .word .ensures) (end .word2 .ensures)
+    (c .node-width .ensures) (c .before .word3 .ensures) number)
 
 loop-holds : tie.Need-loop-holds Inv-loop μ-loop
 loop-holds c =
@@ -55,7 +56,7 @@ loop-holds c =
 come : (c : tie.After-read-node2 Inv-loop μ-loop) →
     let round = c .before .before .before in
     let args = round .before .before .before .before .before .before .before .before .args in
-    c .read-node2 .result ≡ nodeIn (now (args .arena)) (round .loop .node .next)
+    c .read-node2 .result ≡ withoutLength (nodeIn (now (args .arena)) (round .loop .node .next))
 come c = read (c .before .before .before .before .before .before) (c .before .before .before .loop .node .next) (c .read-node2 .ensures)
 
 found-here : tie.Need-returns Inv-loop μ-loop

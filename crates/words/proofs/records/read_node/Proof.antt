@@ -8,27 +8,25 @@ inside : tie.Need-returns
 unfolding nodeAt
 inside c =
     rw (
-      c .node-length .ensures,
-      c .before .before .slot5 .ensures,
-      c .before .before .before .before .slot4 .ensures,
-      c .before .before .before .before .before .before .slot3 .ensures,
-      c .before .before .before .before .before .before .before .before .slot2 .ensures,
+      c .before .slot5 .ensures,
+      c .before .before .before .slot4 .ensures,
+      c .before .before .before .before .before .slot3 .ensures,
+      c .before .before .before .before .before .before .before .slot2 .ensures,
     )
 
 outside : tie.Need-returns-2
 unfolding nodeAt
 outside c =
     rw (
-      c .node-length2 .ensures,
-      c .before .node-field4 .ensures,
-      c .before .before .node-field3 .ensures,
-      c .before .before .before .node-field2 .ensures,
-      c .before .before .before .before .node-field .ensures,
+      c .node-field4 .ensures,
+      c .before .node-field3 .ensures,
+      c .before .before .node-field2 .ensures,
+      c .before .before .before .node-field .ensures,
     )
 
 pub read-node-spec : {M : Type 1} → statement M
 read-node-spec =
     tie.close
     (tie.spec (search needs) (search needs) (search needs) (search needs) (search needs) (search needs) (search needs) (search needs)
-    (search needs) (search needs) (search needs) (search needs) (search needs) (search needs) inside (search needs) (search needs)
-    (search needs) (search needs) (search needs) outside)
+    (search needs) (search needs) (search needs) (search needs) (search needs) inside (search needs) (search needs) (search needs)
+    (search needs) outside)
