@@ -28,6 +28,15 @@ counts layout workers nodes e =
     let n = range-bounds 3 1024 nodes (all .1) in
     record { some-layout = l .0; few-layouts = l .1; some-workers = w .0; few-workers = w .1; some-nodes = n .0; few-nodes = n .1 }
 
+-- one word more in layout 2
+pub width-sum : {layout : ℕ} → 1 ≤ layout → layout ≤ 2 → nodeWidth layout ≡ layout + 3
+unfolding nodeWidth
+width-sum {layout} some few =
+    elim (ℕ-discrete layout 1) [
+      | yes q ↦ rw q
+      | no q ↦ let two : layout ≡ 2 = omega arith in rw two
+    ]
+
 -- what holds of the words of a node in each layout holds of all
 pub by-layout : (P : ℕ → Type 0) {layout : ℕ} → 1 ≤ layout → layout ≤ 2 → P 4 → P 5 → P (nodeWidth layout)
 unfolding nodeWidth

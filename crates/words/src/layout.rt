@@ -2,7 +2,8 @@
 ghost use mathlib.Core.Path.{_≡_};
 ghost use mathlib.Core.Bool.{true};
 ghost use Prim.Native.Nat.{_*_};
-ghost use Rattle.words.specs.Layout.{nodeWidth, hasLength, workerFrom, slot, total, goodCounts, headerWords};
+ghost use Rattle.worker.specs.Worker.{within};
+ghost use Rattle.words.specs.Layout.{layout1, layout2, nodeWidth, hasLength, workerFrom, slot, total, goodCounts, headerWords};
 
 // Header words.
 pub const LAYOUT_AT: usize = 0;
@@ -53,15 +54,18 @@ pub const NODE_OWNER: u16 = 3;
 
 pub const NODE_LENGTH: u16 = 4;
 
-// Words of a node record, by layout number; 0 where there is no such layout.
+// Words of a node record: 4 in layout 1, 5 in layout 2, and 0 where there is no such layout. By a sum, since the compiler drops the test
+// where the layout is known to be one.
 pub fn node_width(layout: u16) -> u16
     ensures { λ r. ⌜ r ≡ nodeWidth layout ⌝ }
 {
-    match layout {
-        LAYOUT_1 => 4,
-        LAYOUT_2 => 5,
-        _ => 0,
-    }
+    if is_layout(layout) { layout + 3 } else { 0 }
+}
+
+fn is_layout(layout: u16) -> bool
+    ensures { λ r. ⌜ r ≡ within layout1 layout2 layout ⌝ }
+{
+    (LAYOUT_1 <= layout) & (layout <= LAYOUT_2)
 }
 
 // Whether records of so many words have one for the length.
@@ -102,9 +106,7 @@ pub fn total(layout: u16, workers: u16, nodes: u16) -> usize
 pub fn good_counts(layout: u16, workers: u16, nodes: u16) -> bool
     ensures { λ r. ⌜ r ≡ goodCounts layout workers nodes ⌝ }
 {
-    ((LAYOUT_1 <= layout) & (layout <= LAYOUT_2))
-        & ((1 <= workers) & (workers <= 8))
-        & ((3 <= nodes) & (nodes <= 1024))
+    is_layout(layout) & ((1 <= workers) & (workers <= 8)) & ((3 <= nodes) & (nodes <= 1024))
 }
 
 // The header of an arena with these counts. Where they are good, its numbers are words.
