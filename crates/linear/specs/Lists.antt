@@ -1,5 +1,4 @@
--- Lists: those that pass a test, the first and the last time at which a test holds, and lists in which every two
--- are related.
+-- Lists: those that pass a test, the first and the last time at which a test holds, and lists in which every two are related.
 use Prim.Native.Nat.{ℕ, zero, suc}
 use mathlib.Core.List.{List, [], _∷_}
 use mathlib.Core.Bool.{Bool, cond}

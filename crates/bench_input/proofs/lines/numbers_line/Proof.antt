@@ -1,8 +1,13 @@
 -- The second number decides, and then whether a field stands behind it.
-use mathlib.Core.Path.{sym}
+use mathlib.Core.Path.{_≡_, sym}
+use mathlib.Core.Option.{Option·map, Option·getD}
+use denote.Ref.{now}
 use lib.Seq.{length-take-le}
 use borrow.Author.Needs.{needs}
-use Rattle.bench_input.specs.Bytes.{space}
+use Rattle.bench_input.specs.Bytes.{space, parts}
+use Rattle.bench_input.specs.Numbers.{numberSaid}
+use Rattle.bench_input.specs.Lines.{longLine, numbersLine}
+use Rattle.bench_input.specs.declared.lines.Line.the-variants.{Bad}
 use Rattle.bench_input.proofs.ByteLaws.{place-within}
 use Rattle.bench_input.proofs.LineLaws.{some-parts, last-part, more-parts, last-field}
 use Rattle.bench_input.proofs.lines.numbers_line.Statement.{statement}
@@ -26,33 +31,28 @@ three-fields c =
       b .b .given .1,
     ) (c .command-line .ensures)
 
-third-bad : tie.Need-returns-3
-third-bad c =
-    let last = c .before .before in
-    let b = last .before .before .before .before in
+-- a further field: the line by that field's number
+fourth : (c : tie.After-number-of2) →
+    let b = c .before .before .before .before in
+    let args = b .before .before .before .before .before .before .before .args in
+    numbersLine (now (args .word)) (args .a) (parts space (now (args .fields)))
+    ≡ Option·getD (Option·map (longLine (now (args .word)) (args .a) (b .b .given .0 .0)) (numberSaid (c .number-of2 .result))) Bad
+fourth c =
+    let b = c .before .before .before .before in
     let number = b .before .before in
     rw (
-      more-parts space _ _ (number .before .before .find .ensures) (last .before .before .if1 .left),
+      more-parts space _ _ (number .before .before .find .ensures) (c .before .before .if1 .left),
       ← number .number-of .ensures,
       b .b .given .1,
       last-field,
-      ← last .number-of2 .ensures,
-      c .enum-told2 .given .1,
+      c .number-of2 .ensures,
     )
 
+third-bad : tie.Need-returns-3
+third-bad c = rw (fourth (c .before .before), c .enum-told2 .given .1)
+
 four-fields : tie.Need-returns-4
-four-fields c =
-    let last = c .before .before .before .before in
-    let b = last .before .before .before .before in
-    let number = b .before .before in
-    rw (
-      more-parts space _ _ (number .before .before .find .ensures) (last .before .before .if1 .left),
-      ← number .number-of .ensures,
-      b .b .given .1,
-      last-field,
-      ← last .number-of2 .ensures,
-      c .before .before .c .given .1,
-    ) (c .long-line .ensures)
+four-fields c = rw (fourth (c .before .before .before .before), c .before .before .c .given .1) (c .long-line .ensures)
 
 pub numbers-line-spec : {M : Type 1} → statement M
 numbers-line-spec =
