@@ -195,8 +195,9 @@ pub fn start(
     Ok(())
 }
 
-/// Writes the keys between Head and Tail, marked or not (document 01: the roll), and gives their
-/// count. They are gathered aside, since a refusal writes nothing. Refusals 1, 2, 7, 8.
+/// Writes the keys of the set in rising order (document 01: the roll) and gives their count: marked
+/// nodes are passed over, but their links and keys must be as good as the others'. Keys are gathered
+/// aside, since a refusal writes nothing. Refusals 1, 2, 7, 8.
 pub fn snapshot(arena: &[u16], out: &mut [u16]) -> Result<usize, u16> {
     let shape = check_header(arena)?;
     let mut keys = [0; MAX_NODES as usize];
@@ -208,14 +209,17 @@ pub fn snapshot(arena: &[u16], out: &mut [u16]) -> Result<usize, u16> {
         if node >= shape.nodes {
             return Err(BROKEN_CHAIN);
         }
-        let key = arena[shape.node_at(node) + KEY];
+        let at = shape.node_at(node);
+        let key = arena[at + KEY];
         if key <= last_key {
             return Err(BROKEN_CHAIN);
         }
-        keys[count] = key;
-        count += 1;
+        if arena[at + MARK] == 0 {
+            keys[count] = key;
+            count += 1;
+        }
         last_key = key;
-        node = arena[shape.node_at(node) + NEXT];
+        node = arena[at + NEXT];
     }
     let room = out.get_mut(..count).ok_or(NO_ROOM)?;
     room.copy_from_slice(&keys[..count]);

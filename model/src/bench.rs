@@ -1,5 +1,5 @@
-//! The bench program of document 01 ("Dagmar's bench program") with the waits and the lengths of
-//! document 02, byte for byte.
+//! The bench program of document 01 ("Dagmar's bench program") with the waits, the lengths and the
+//! roll of document 02, byte for byte.
 
 use crate::arena::*;
 use crate::run::{run_traced, Call, Room, Trace, Wait, ENTRY_WORDS};

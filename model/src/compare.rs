@@ -69,8 +69,8 @@ impl Comparison {
                 Err(reason) => reason.clone(),
             });
         }
-        if let Outcome::Ran(trace, _) = &outcome {
-            let checked = check_history(trace, tally);
+        if let Outcome::Ran(trace, roll) = &outcome {
+            let checked = check_history(trace, roll, tally);
             tally.check(checked.is_ok());
             complaint = complaint.or(checked.err());
         }
@@ -113,8 +113,8 @@ impl Comparison {
     }
 }
 
-/// Checks a history of the model by its points, its waits and, if it is small, by search.
-fn check_history(trace: &Trace, tally: &mut Tally) -> Result<(), String> {
+/// Checks a history of the model by its points, its waits, its roll and, if it is small, by search.
+fn check_history(trace: &Trace, roll: &[u16], tally: &mut Tally) -> Result<(), String> {
     // Document 01: no turn from a fresh arena meets 6 or 7; a run has its own, so 1 and 2 are out.
     let only_known = [1, 2, 6, 7, 8, 9, 10]
         .iter()
@@ -128,6 +128,7 @@ fn check_history(trace: &Trace, tally: &mut Tally) -> Result<(), String> {
     check_told(&trace.calls, &trace.told)?;
     check_waits(trace)?;
     sequential::check(&trace.calls, last_set)?;
+    sequential::check_roll(&trace.calls, roll)?;
     tally.met(SEQUENTIAL, 1);
     match explained(&trace.calls, last_set) {
         Some(false) => Err("no order explains the history".to_string()),

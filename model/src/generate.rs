@@ -14,6 +14,7 @@ pub enum Kind {
     Overtaken,
     HeldNodes,
     InTheWay,
+    HalfRemoved,
     Crowded,
     Long,
     Limit,
@@ -23,11 +24,12 @@ pub enum Kind {
 }
 
 impl Kind {
-    pub const ALL: [Kind; 10] = [
+    pub const ALL: [Kind; 11] = [
         Kind::Small,
         Kind::Overtaken,
         Kind::HeldNodes,
         Kind::InTheWay,
+        Kind::HalfRemoved,
         Kind::Crowded,
         Kind::Long,
         Kind::Limit,
@@ -42,6 +44,7 @@ impl Kind {
             Kind::Overtaken => "overtaken look-up",
             Kind::HeldNodes => "held nodes",
             Kind::InTheWay => "workers in the way",
+            Kind::HalfRemoved => "half-removed keys",
             Kind::Crowded => "crowded schedule",
             Kind::Long => "long schedule",
             Kind::Limit => "at a limit",
@@ -60,7 +63,7 @@ pub struct Generated {
 }
 
 /// The kinds take turns in this order, so that every kind is met in a short comparison too.
-const ROUND: [Kind; 22] = [
+const ROUND: [Kind; 23] = [
     Kind::Small,
     Kind::Damaged,
     Kind::Limit,
@@ -79,6 +82,7 @@ const ROUND: [Kind; 22] = [
     Kind::Overtaken,
     Kind::HeldNodes,
     Kind::RandomBytes,
+    Kind::HalfRemoved,
     Kind::HeldNodes,
     Kind::InTheWay,
     Kind::Small,
@@ -100,6 +104,7 @@ pub fn generate(seed: u64, number: u64) -> Generated {
         Kind::Overtaken => scenes::overtaken(&mut rng).into_bytes(),
         Kind::HeldNodes => scenes::held_nodes(&mut rng).into_bytes(),
         Kind::InTheWay => scenes::in_the_way(&mut rng).into_bytes(),
+        Kind::HalfRemoved => scenes::half_removed(&mut rng).into_bytes(),
         Kind::Crowded => crowded(&mut rng).into_bytes(),
         Kind::Long => long(&mut rng).into_bytes(),
         Kind::Limit => {

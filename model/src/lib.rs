@@ -17,6 +17,7 @@ pub mod selftest;
 pub mod selftest_lengths;
 pub mod selftest_plain;
 pub mod selftest_refusals;
+pub mod selftest_roll;
 pub mod selftest_waits;
 pub mod selftest_words;
 pub mod sequential;

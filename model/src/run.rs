@@ -103,6 +103,8 @@ pub struct Trace {
     pub retries: u32,
     /// Nodes taken again by an add after an earlier add had taken them.
     pub reused_nodes: u32,
+    /// Nodes marked and still on the chain at the end: a remove has marked each and not unlinked it.
+    pub half_removed: u32,
     /// Per worker its unfinished call, as a place in `calls`.
     current: [Option<usize>; MAX_WORKERS as usize],
     taken_nodes: Vec<u16>,
@@ -264,6 +266,11 @@ impl Trace {
                 self.reused_nodes += 1;
             }
             self.taken_nodes.push(node);
+        }
+        match stage_before {
+            16 => self.half_removed += 1,
+            18 => self.half_removed -= 1,
+            _ => {}
         }
     }
 }

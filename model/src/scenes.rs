@@ -134,6 +134,32 @@ pub fn in_the_way(rng: &mut Rng) -> Script {
     script
 }
 
+/// Workers stop about where they have marked their nodes, most often before these are off the chain:
+/// a roll at the end passes over them. Another worker comes along, and some of them may go on.
+pub fn half_removed(rng: &mut Rng) -> Script {
+    let workers = rng.word(2, 5);
+    let stored = rng.word(1, 9);
+    let mut script = Script::new(workers, stored + rng.word(2, 4));
+    for key in (1..=stored).rev() {
+        script.whole_call(0, ADD, 2 * key);
+    }
+    let last = workers - 1;
+    for worker in 0..last {
+        script.start(worker, REMOVE, 2 * rng.word(1, stored));
+        script.advance(worker, *rng.pick(&[16, 17, 17, 18, 18, 19]));
+    }
+    for _ in 0..rng.range(0, 3) {
+        let operation = rng.word(ADD, CONTAINS);
+        script.whole_call(last, operation, rng.word(1, 2 * stored + 1));
+    }
+    for worker in 0..last {
+        if rng.chance(20) {
+            script.finish(worker);
+        }
+    }
+    script
+}
+
 /// Takes a worker's add or remove, a new one if it is idle, up to a stage or to where it waits.
 fn change_near(rng: &mut Rng, script: &mut Script, worker: u16, greatest_key: u16, stage: u16) {
     if script.is_idle(worker) {

@@ -10,6 +10,7 @@ use crate::run::Call;
 use crate::selftest_lengths;
 use crate::selftest_plain;
 use crate::selftest_refusals;
+use crate::selftest_roll;
 use crate::selftest_waits;
 use crate::selftest_words;
 use crate::sequential;
@@ -80,12 +81,22 @@ entries 53 refused 0 waits 0 calls 4
 roll 5
 ";
 
-/// The turn at 16 has been made and the turn at 18 has not: 5 is on the chain still, but marked.
+/// The turn at 16 has been made and the turn at 18 has not: 5 is on the chain still, but marked, so
+/// the roll passes over it.
 const MARKED_INPUT: &str = "board 1 3\nadd 0 5 1\nturn 0 14\nremove 0 5\nturn 0 10\n";
 const MARKED_OUTPUT: &str = "\
 entries 26 refused 0 waits 0 calls 2
 0 add 5 1 12 15 yes
 0 remove 5 16 26 0 yes
+roll
+";
+
+/// A turn less: 5 is in the set, and on the roll.
+const UNMARKED_INPUT: &str = "board 1 3\nadd 0 5 1\nturn 0 14\nremove 0 5\nturn 0 9\n";
+const UNMARKED_OUTPUT: &str = "\
+entries 25 refused 0 waits 0 calls 2
+0 add 5 1 12 15 yes
+0 remove 5 16 0 0 open
 roll 5
 ";
 
@@ -95,6 +106,7 @@ pub fn selftest() -> Checks {
         (LISTING_INPUT, LISTING_OUTPUT),
         (OVERTAKEN_INPUT, OVERTAKEN_OUTPUT),
         (MARKED_INPUT, MARKED_OUTPUT),
+        (UNMARKED_INPUT, UNMARKED_OUTPUT),
     ];
     for (input, output) in listings {
         checks.check(output, bench(input.as_bytes()) == output.as_bytes());
@@ -114,6 +126,7 @@ pub fn selftest() -> Checks {
     selftest_refusals::refusals(&mut checks);
     selftest_waits::waits(&mut checks);
     selftest_lengths::lengths(&mut checks);
+    selftest_roll::rolls(&mut checks);
     selftest_words::any_words(&mut checks);
     selftest_plain::plain_runs(&mut checks);
     checks
@@ -225,7 +238,7 @@ pub fn history(input: &str) -> (Vec<Call>, Vec<Label>) {
 
 /// Good histories pass, with another last set they don't.
 fn right_histories(checks: &mut Checks) {
-    for input in [LISTING_INPUT, OVERTAKEN_INPUT, MARKED_INPUT] {
+    for input in [LISTING_INPUT, OVERTAKEN_INPUT, MARKED_INPUT, UNMARKED_INPUT] {
         let (calls, set) = history(input);
         checks.check("history there", !calls.is_empty());
         checks.check("times", check_times(&calls).is_ok());

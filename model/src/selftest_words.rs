@@ -4,6 +4,7 @@ use crate::arena::*;
 use crate::rng::Rng;
 use crate::selftest::{fresh, Checks};
 use crate::selftest_refusals::SHAPES;
+use crate::selftest_roll::keys_of;
 use crate::turn::{find_free, turn, Report};
 
 /// What only Tail or a worker leads to is not free, whatever the worker does.
@@ -30,7 +31,7 @@ pub fn any_words(checks: &mut Checks) {
 /// On words of any kind nothing panics, and refusals, waits and idle turns write nothing.
 fn any_words_in(checks: &mut Checks, shape: Shape, total: usize) {
     let mut rng = Rng::new(7, 7);
-    let mut unharmed = true;
+    let (mut unharmed, mut rolls_are_sets) = (true, true);
     let mut accepted = 0;
     for _ in 0..4_000 {
         let words = if rng.chance(30) {
@@ -57,11 +58,13 @@ fn any_words_in(checks: &mut Checks, shape: Shape, total: usize) {
             unharmed &= arena == before;
         }
         let mut out = [3; 2];
-        if snapshot(&arena, &mut out).is_err() {
-            unharmed &= out == [3; 2];
+        match snapshot(&arena, &mut out) {
+            Ok(count) => rolls_are_sets &= out[..count] == keys_of(&set(&arena)),
+            Err(_) => unharmed &= out == [3; 2],
         }
         unharmed &= set(&arena).len() <= MAX_NODES as usize;
     }
     checks.check("refusals on any words write nothing", unharmed);
+    checks.check("rolls of any words are sets", rolls_are_sets);
     checks.check("turns on any words", accepted > 50);
 }

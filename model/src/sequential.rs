@@ -52,8 +52,8 @@ pub fn in_feeding_order(calls: &[Call]) -> Vec<Call> {
     fed
 }
 
-/// Compares every answer and the last set with those of the sequential set.
-pub fn check(calls: &[Call], last_set: &[Label]) -> Result<(), String> {
+/// The sequential set at the end, if it gives every answer that was given.
+fn fed(calls: &[Call]) -> Result<SequentialSet, String> {
     let mut state = SequentialSet::default();
     let mut last_turn = 0;
     for call in in_feeding_order(calls) {
@@ -72,9 +72,24 @@ pub fn check(calls: &[Call], last_set: &[Label]) -> Result<(), String> {
             return Err(format!("the sequential set answers {answer:?} to {call:?}"));
         }
     }
-    let labels = state.labels();
+    Ok(state)
+}
+
+/// Compares every answer and the last set with those of the sequential set.
+pub fn check(calls: &[Call], last_set: &[Label]) -> Result<(), String> {
+    let labels = fed(calls)?.labels();
     if labels != last_set {
         return Err(format!("sequential set {labels:?}, arena {last_set:?}"));
+    }
+    Ok(())
+}
+
+/// Compares the roll at the end with the keys of the sequential set, which knows of no marked nodes.
+pub fn check_roll(calls: &[Call], roll: &[u16]) -> Result<(), String> {
+    let labels = fed(calls)?.labels();
+    let keys: Vec<u16> = labels.iter().map(|label| label.key).collect();
+    if keys != roll {
+        return Err(format!("sequential set {keys:?}, roll {roll:?}"));
     }
     Ok(())
 }

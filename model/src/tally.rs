@@ -38,9 +38,11 @@ const OPEN: &str = "open calls without a point";
 const OPEN_DECIDED: &str = "unfinished calls with a point";
 const LATE: &str = "points before the deciding turn";
 const OVERTAKEN: &str = "overtaken look-ups (key back again)";
+const PASSED_OVER: &str = "rolls that pass over a marked node";
+const PASSED_OVER_MORE: &str = "rolls that pass over several";
 
 /// What must be met besides kinds, damages and refused entries.
-const MET: [&str; 24] = [
+const MET: [&str; 26] = [
     SEQUENTIAL,
     SEARCHED,
     BAD_LINE,
@@ -65,6 +67,8 @@ const MET: [&str; 24] = [
     OPEN_DECIDED,
     LATE,
     OVERTAKEN,
+    PASSED_OVER,
+    PASSED_OVER_MORE,
 ];
 
 type Counts = BTreeMap<&'static str, u64>;
@@ -145,6 +149,8 @@ impl Tally {
         self.note_lengths(trace);
         self.met(RETRIES, u64::from(trace.retries));
         self.met(REUSED, u64::from(trace.reused_nodes));
+        self.met(PASSED_OVER, u64::from(trace.half_removed > 0));
+        self.met(PASSED_OVER_MORE, u64::from(trace.half_removed > 1));
         for (name, number) in ENTRY_REFUSED {
             self.met(name, u64::from(trace.refusals[number]));
         }

@@ -1,13 +1,14 @@
 -- Laws of the walk along the chain.
 use Prim.Native.Nat.{ℕ, zero, suc, _+_, _-_, _≤_, _<_}
 use mathlib.Core.Path.{_≡_, refl, ap, _∙_}
-use mathlib.Core.List.{List, [], _∷_, _++_, map}
+use mathlib.Core.Logic.{_≢_}
+use mathlib.Core.List.{List, [], _∷_, _++_}
 use mathlib.Core.Bool.{Bool, true, false, cond, not, _&&_, and-eq-true-iff}
 use mathlib.Core.Option.{Option, none, some, Option·map, Option·getD, Option·none-ne-some, Option·some-ne-none}
 use native.Mathlib.Omega.{arith}
 use native.Mathlib.Nat.{zero-add, add-zero, add-suc, suc-add}
-use native.Mathlib.Numerals.{add-one}
-use lib.ListN.{length, take, drop, set, length-map}
+use native.Mathlib.Numerals.{add-one, sub-one}
+use lib.ListN.{length, take, drop, set}
 use lib.Seq.{sets, sets-eq, take-at, length-take-le}
 use lib.Dec.{ltb, eqb}
 use borrow.Author.Tests.{eq-eqb, ne-eqb, lt-ltb, le-ltb, ltb-true, not-true, not-false}
@@ -18,47 +19,73 @@ use Rattle.words.specs.Records.{nodeAt, keyAt, nextAt}
 use Rattle.words.specs.Replies.{refused, accepted, replied}
 use Rattle.words.proofs.Judged.{none-holds, given-values, refused-first, accepted-first}
 use Rattle.words.proofs.Runs.{sets-whole}
-use Rattle.arena.specs.Snapshot.{walk, chain, chainKeys, chainBroken, chainTooLong, chainRefusals, isNone}
+use Rattle.arena.specs.Lists.{filter}
+use Rattle.arena.specs.Sets.{keysIn, isNone, isUnmarked, labelsAt, walk, chain, chainNodes, chainLabels}
+use Rattle.arena.specs.Snapshot.{chainKeys, chainBroken, chainTooLong, chainRefusals}
 use Rattle.arena.proofs.ShortChains.{chain-few}
 
--- with a step left, one is less after it
-less : {steps k : ℕ} → k < steps → steps - k ≡ suc (steps - (k + 1))
-less h = omega arith
-
 module _ (width : ℕ) (nodes : List ℕ) (count : ℕ) where
-  -- the nodes passed, and the row with their keys, once a walk has passed the nodes that are left
+  -- the keys of the unmarked ones of some nodes
+  abbrev listed : List ℕ → List ℕ
+  listed places = keysIn (labelsAt width nodes places)
+
+  -- how many keys there are, and the row with them, once a walk has passed the nodes that are left
   abbrev pub gathered : ℕ → List ℕ → Option (List ℕ) → Option (ℕ × List ℕ)
-  gathered passed row none = none
-  gathered passed row (some ns) = some (passed + length ns, sets row passed (map (keyAt width nodes) ns))
+  gathered many row none = none
+  gathered many row (some places) = some (many + length (listed places), sets row many (listed places))
 
-  gathered-on : (passed node : ℕ) (row : List ℕ) (onward : Option (List ℕ)) →
-      gathered passed row (Option·map (λ rest. node ∷ rest) onward) ≡ gathered (passed + 1) (set row passed (keyAt width nodes node)) onward
-  gathered-on passed node row none = refl
-  gathered-on passed node row (some ns) = rw (add-one, suc-add, add-suc)
+  -- a node in front adds its key, or nothing where it is marked
+  gathered-on : (many node : ℕ) (row : List ℕ) (onward : Option (List ℕ)) → isUnmarked width nodes node ≡ true →
+      gathered many row (Option·map (λ rest. node ∷ rest) onward) ≡ gathered (many + 1) (set row many (keyAt width nodes node)) onward
+  unfolding filter
+  gathered-on many node row none unmarked = refl
+  gathered-on many node row (some places) unmarked = rw (unmarked, add-one, suc-add, add-suc)
 
-  -- a walk at Tail, at a break, and at a node that it passes
-  pub walk-end : (steps passed last node : ℕ) (row : List ℕ) → passed < steps → node ≡ tail →
-      gathered passed row (walk width nodes count (steps - passed) last node) ≡ some (passed, row)
-  unfolding walk
-  walk-end steps passed last node row h t = rw (less h, eq-eqb _ _ t, add-zero)
+  gathered-past : (many node : ℕ) (row : List ℕ) (onward : Option (List ℕ)) → isUnmarked width nodes node ≡ false →
+      gathered many row (Option·map (λ rest. node ∷ rest) onward) ≡ gathered many row onward
+  unfolding filter
+  gathered-past many node row none marked = refl
+  gathered-past many node row (some places) marked = rw marked
 
-  pub walk-break : (steps passed last node : ℕ) (row : List ℕ) (n : Node) → n ≡ withoutLength (nodeAt width nodes node) →
-      passed < steps → (node ≡ tail → ⊥) → not (ltb node count && ltb last (n .key)) ≡ true →
-      gathered passed row (walk width nodes count (steps - passed) last node) ≡ none
-  unfolding walk
-  walk-break steps passed last node row n e h t k =
-      let stops : (ltb node count && ltb last (keyAt width nodes node)) ≡ false = not-true _ (rw e at k) in
-      rw (less h, ne-eqb _ _ t, stops)
+  -- a walk with steps left, at Tail, at a break, and at a node that it passes
+  module _ (many last node : ℕ) (row : List ℕ) where
+    pub walk-end : (steps : ℕ) → 0 < steps → node ≡ tail → gathered many row (walk width nodes count steps last node) ≡ some (many, row)
+    unfolding walk filter
+    walk-end zero left t = absurd (omega arith)
+    walk-end (suc steps) left t = rw (eq-eqb _ _ t, add-zero)
 
-  pub walk-on : (steps passed last node : ℕ) (row : List ℕ) (n : Node) → n ≡ withoutLength (nodeAt width nodes node) →
-      passed < steps → (node ≡ tail → ⊥) → not (ltb node count && ltb last (n .key)) ≡ false →
-      gathered passed row (walk width nodes count (steps - passed) last node)
-      ≡ gathered (passed + 1) (set row passed (n .key)) (walk width nodes count (steps - (passed + 1)) (n .key) (n .next))
-  unfolding walk
-  walk-on steps passed last node row n e h t k =
-      let passes : (ltb node count && ltb last (keyAt width nodes node)) ≡ true = not-false _ (rw e at k) in
-      rw (e, less h, ne-eqb _ _ t, passes)
-      (gathered-on passed node row (walk width nodes count (steps - (passed + 1)) (keyAt width nodes node) (nextAt width nodes node)))
+    module _ (n : Node) (read : n ≡ withoutLength (nodeAt width nodes node)) (off : node ≢ tail) where
+      pub walk-break : (steps : ℕ) → not (ltb node count && ltb last (n .key)) ≡ true →
+          gathered many row (walk width nodes count steps last node) ≡ none
+      unfolding walk
+      walk-break zero k = refl
+      walk-break (suc steps) k =
+          let stops : (ltb node count && ltb last (keyAt width nodes node)) ≡ false = not-true _ (rw read at k) in
+          rw (ne-eqb _ _ off, stops)
+
+      -- where it goes on, one step is less
+      onward : (steps : ℕ) → 0 < steps → not (ltb node count && ltb last (n .key)) ≡ false →
+          walk width nodes count steps last node ≡ Option·map (λ rest. node ∷ rest) (walk width nodes count (steps - 1) (n .key) (n .next))
+      unfolding walk
+      onward zero left k = absurd (omega arith)
+      onward (suc steps) left k =
+          let passes : (ltb node count && ltb last (keyAt width nodes node)) ≡ true = not-false _ (rw read at k) in
+          rw (read, ne-eqb _ _ off, passes, sub-one)
+
+      pub walk-on : (steps : ℕ) → 0 < steps → not (ltb node count && ltb last (n .key)) ≡ false → n .mark ≡ 0 →
+          gathered many row (walk width nodes count steps last node)
+          ≡ gathered (many + 1) (set row many (n .key)) (walk width nodes count (steps - 1) (n .key) (n .next))
+      walk-on steps left k unmarked =
+          ap (gathered many row) (onward steps left k)
+          ∙ gathered-on many node row (walk width nodes count (steps - 1) (n .key) (n .next)) (eq-eqb _ _ (rw read at unmarked))
+          ∙ rw read
+
+      pub walk-past : (steps : ℕ) → 0 < steps → not (ltb node count && ltb last (n .key)) ≡ false → (n .mark ≡ 0 → ⊥) →
+          gathered many row (walk width nodes count steps last node)
+          ≡ gathered many row (walk width nodes count (steps - 1) (n .key) (n .next))
+      walk-past steps left k marked =
+          ap (gathered many row) (onward steps left k)
+          ∙ gathered-past many node row (walk width nodes count (steps - 1) (n .key) (n .next)) (ne-eqb _ _ (rw read at marked))
 
   pub rises : (node last key : ℕ) → not (ltb node count && ltb last key) ≡ false → last < key
   rises node last key k = ltb-true last key (and-eq-true-iff (ltb node count) (ltb last key) .0 (not-false _ k) .1)
@@ -73,21 +100,21 @@ module _ (width : ℕ) (nodes : List ℕ) (count : ℕ) where
         go none e = refl
         go (some ns) e = absurd (Option·some-ne-none _ e)
 
-    pub whole : (n : ℕ) (after : List ℕ) → gathered 0 row (walk width nodes count 65536 (first .key) (first .next)) ≡ some (n, after) →
-        (accepted (n ∷ []) ≡ replied (chainBroken width nodes count ∷ []) (length (chainKeys width nodes count) ∷ []))
+    pub whole : (many : ℕ) (after : List ℕ) → gathered 0 row (walk width nodes count 65536 (first .key) (first .next)) ≡ some (many, after) →
+        (accepted (many ∷ []) ≡ replied (chainBroken width nodes count ∷ []) (length (chainKeys width nodes count) ∷ []))
         × (after ≡ sets row 0 (chainKeys width nodes count))
-    unfolding chainBroken chainKeys chain
-    whole n after e = go (walk width nodes count 65536 (keyAt width nodes head) (nextAt width nodes head)) (rw read at e)
+    unfolding chainBroken chainKeys chainLabels chainNodes chain
+    whole many after e = go (walk width nodes count 65536 (keyAt width nodes head) (nextAt width nodes head)) (rw read at e)
       where
         keys : Option (List ℕ) → List ℕ
-        keys o = map (keyAt width nodes) (Option·getD o [])
+        keys o = listed (Option·getD o [])
 
-        go : (o : Option (List ℕ)) → gathered 0 row o ≡ some (n, after) →
-            (accepted (n ∷ []) ≡ cond (isNone o) (refused brokenChain) (accepted (length (keys o) ∷ []))) × (after ≡ sets row 0 (keys o))
-        go none e = absurd (Option·none-ne-some (n, after) e)
-        go (some ns) e =
-            let same : _≡_ {A = ℕ × List ℕ} (n, after) (0 + length ns, sets row 0 (map (keyAt width nodes) ns)) = cc in
-            (rw (ap (λ (p : ℕ × List ℕ). p .0) same, zero-add, length-map), ap (λ (p : ℕ × List ℕ). p .1) same)
+        go : (o : Option (List ℕ)) → gathered 0 row o ≡ some (many, after) →
+            (accepted (many ∷ []) ≡ cond (isNone o) (refused brokenChain) (accepted (length (keys o) ∷ []))) × (after ≡ sets row 0 (keys o))
+        go none e = absurd (Option·none-ne-some (many, after) e)
+        go (some places) e =
+            let same : _≡_ {A = ℕ × List ℕ} (many, after) (0 + length (listed places), sets row 0 (listed places)) = cc in
+            (rw (ap (λ (p : ℕ × List ℕ). p .0) same, zero-add), ap (λ (p : ℕ × List ℕ). p .1) same)
 
   -- as keys are words, more steps than 65,536 find the same
   module _ (words : (node : ℕ) → keyAt width nodes node < 65536) where
@@ -126,7 +153,7 @@ module _ (width : ℕ) (nodes : List ℕ) (count : ℕ) where
   keys-broken room number values refuse accept =
       refused-first (chainBroken width nodes count ∷ []) (chainTooLong width nodes count room ∷ []) values refuse accept
 
-  -- what follows of a survey that found n nodes
+  -- what follows of a survey that found n keys
   module _ (n : ℕ) (found : accepted (n ∷ []) ≡ replied (chainBroken width nodes count ∷ []) (length (chainKeys width nodes count) ∷ [])) where
     pub keys-count : length (chainKeys width nodes count) ≡ n
     keys-count =
@@ -134,7 +161,7 @@ module _ (width : ℕ) (nodes : List ℕ) (count : ℕ) where
         cc
 
     -- the keys, taken from the row, are written
-    pub keys-written : (row after keys : List ℕ) → count ≤ length row →
+    pub keys-written : (row after keys : List ℕ) → count - 2 ≤ length row →
         (isNone (chain width nodes count) ≡ false → after ≡ sets row 0 (chainKeys width nodes count)) → n ≤ length keys →
         sets (take n keys) 0 (take n after) ++ drop n keys
         ≡ chainKeys width nodes count ++ drop (length (chainKeys width nodes count)) keys

@@ -1,16 +1,14 @@
--- snapshot (document 01: write the roll), and the chain that it walks.
-use Prim.Native.Nat.{ℕ, zero, suc}
-use mathlib.Core.List.{List, [], _∷_, _++_, map}
-use mathlib.Core.Bool.{Bool, true, false, cond, _&&_}
-use mathlib.Core.Option.{Option, none, some, Option·map, Option·getD}
+-- snapshot (document 01: write the roll; document 02, A3: the roll is the set).
+use Prim.Native.Nat.{ℕ}
+use mathlib.Core.Path.{_≡_}
+use mathlib.Core.List.{List, [], _∷_, _++_}
 use lib.ListN.{length, drop}
-use lib.Dec.{ltb, eqb}
-use Rattle.worker.specs.Node.{head, tail}
+use lib.Dec.{ltb}
 use Rattle.worker.specs.Refusals.{Refusal, brokenChain, noRoom}
 use Rattle.words.specs.Layout.{nodesOf, layoutOf, nodeWidth, nodePart}
-use Rattle.words.specs.Records.{keyAt, nextAt}
 use Rattle.words.specs.Replies.{Reply, refused, accepted, replied, written}
 use Rattle.words.specs.Header.{headerRefusals}
+use Rattle.arena.specs.Sets.{keysIn, isNone, chain, chainLabels, setOf}
 use Rattle.arena.specs.declared.Listing.{Listing}
 use Rattle.arena.specs.declared.Listing.the-variants as listing
 
@@ -19,32 +17,14 @@ abbrev pub listingReply : Listing → Reply
 listingReply (listing.Keys count) = accepted (count ∷ [])
 listingReply (listing.Refused number) = refused number
 
-abbrev pub isNone : {A : Type 0} → Option A → Bool
-isNone none = true
-isNone (some a) = false
-
 module _ (width : ℕ) (nodes : List ℕ) (count : ℕ) where
-  -- The nodes from `node` on, up to Tail, which is not looked at; or none, where a link is N or more or a key is not above the last.
-  -- Keys rise and are words, so 65,536 steps are enough for every walk (`Walks.chain-steps`).
-  unfoldable pub walk : ℕ → ℕ → ℕ → Option (List ℕ)
-  walk zero last node = none
-  walk (suc steps) last node =
-      let onward = walk steps (keyAt width nodes node) (nextAt width nodes node) in
-      cond (eqb node tail)
-      (some [])
-      (cond (ltb node count && ltb last (keyAt width nodes node)) (Option·map (λ rest. node ∷ rest) onward) none)
-
-  -- the nodes of the chain between Head and Tail; Head's key is where the rising begins
-  unfoldable pub chain : Option (List ℕ)
-  chain = walk 65536 (keyAt width nodes head) (nextAt width nodes head)
-
-  -- their keys, in chain order
+  -- the keys of the set
   unfoldable pub chainKeys : List ℕ
-  chainKeys = map (keyAt width nodes) (Option·getD chain [])
+  chainKeys = keysIn (chainLabels width nodes count)
 
-  -- a broken chain: 7
+  -- a broken chain, at a marked node as at any other: 7
   unfoldable pub chainBroken : Refusal
-  chainBroken = (isNone chain, brokenChain)
+  chainBroken = (isNone (chain width nodes count), brokenChain)
 
   -- more keys than room: 8
   unfoldable pub chainTooLong : ℕ → Refusal
@@ -54,9 +34,9 @@ module _ (width : ℕ) (nodes : List ℕ) (count : ℕ) where
   unfoldable pub chainRefusals : ℕ → List Refusal
   chainRefusals room = chainBroken ∷ chainTooLong room ∷ []
 
--- the keys of an arena's chain
+-- the roll: the keys of an arena's set, rising
 unfoldable pub keysOf : List ℕ → List ℕ
-keysOf arena = chainKeys (nodeWidth (layoutOf arena)) (nodePart arena) (nodesOf arena)
+keysOf arena = keysIn (setOf arena)
 
 -- order: 1, 2, 7, 8
 unfoldable pub snapshotRefusals : List ℕ → ℕ → List Refusal
@@ -71,3 +51,8 @@ snapshotAnswer arena room = replied (snapshotRefusals arena room) (length (keysO
 unfoldable pub snapshotWords : List ℕ → List ℕ → List ℕ
 snapshotWords arena lent =
     written (snapshotRefusals arena (length lent)) lent (keysOf arena ++ drop (length (keysOf arena)) lent)
+
+-- what is claimed of a snapshot (`SnapshotLaws.snapshot-lists`): it is accepted, and lists the set
+pub record Listed (arena lent : List ℕ) : Type 0 where
+  pub answer : snapshotAnswer arena (length lent) ≡ accepted (length (keysOf arena) ∷ [])
+  pub words : snapshotWords arena lent ≡ keysOf arena ++ drop (length (keysOf arena)) lent

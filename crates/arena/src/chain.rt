@@ -1,4 +1,4 @@
-// The chain from Head to Tail, for a snapshot.
+// The chain from Head to Tail, and the keys of its unmarked nodes, for a snapshot.
 ghost use Prim.Native.Nat.{_≤_};
 ghost use mathlib.Core.Path.{_≡_};
 ghost use mathlib.Core.Bool.{false};
@@ -6,7 +6,8 @@ ghost use mathlib.Core.List.{[], _∷_, _++_};
 ghost use lib.ListN.{length, drop};
 ghost use lib.Seq.{sets};
 ghost use Rattle.words.specs.Replies.{replied, written};
-ghost use Rattle.arena.specs.Snapshot.{listingReply, isNone, chain, chainBroken, chainKeys, chainRefusals};
+ghost use Rattle.arena.specs.Sets.{isNone, chain};
+ghost use Rattle.arena.specs.Snapshot.{listingReply, chainBroken, chainKeys, chainRefusals};
 use crate::Listing;
 use words::put;
 use words::records::read_node;
@@ -14,7 +15,8 @@ use words::write;
 use worker::Node;
 use worker::refusal;
 
-// Walks from Head to Tail and gathers the keys between in a row: the snapshot, were there room for any number of keys.
+// Walks from Head to Tail and gathers the keys of the unmarked nodes between in a row: the snapshot, were there room for any number of keys.
+// A marked node is passed over, but its link and its key are tested like the others'.
 fn survey(nodes: &[u16], width: u16, count: u16, row: &mut [u16]) -> Listing
     ensures answer { λ r. ⌜ listingReply r ≡ replied (chainBroken width (now (nodes .entry)) count ∷ []) (length (chainKeys width (now (nodes .entry)) count) ∷ []) ⌝ }
     ensures words { λ _. ⌜ (isNone (chain width (now (nodes .entry)) count) ≡ false →
@@ -23,21 +25,23 @@ fn survey(nodes: &[u16], width: u16, count: u16, row: &mut [u16]) -> Listing
     let head = read_node(nodes, width, Node::HEAD);
     let mut last = head.key;
     let mut at = head.next;
-    let mut passed: u16 = 0;
+    let mut listed: u16 = 0;
     while at != Node::TAIL {
         let node = read_node(nodes, width, at);
         if !((at < count) & (last < node.key)) {
             return Listing::Refused(refusal::BROKEN_CHAIN);
         }
-        put(row, passed as usize, node.key);
-        passed += 1;
+        if node.mark == 0 {
+            put(row, listed as usize, node.key);
+            listed += 1;
+        }
         last = node.key;
         at = node.next;
     }
-    Listing::Keys(passed)
+    Listing::Keys(listed)
 }
 
-// The keys of the chain, of the arena's part that holds the node records.
+// The keys of the set, from the arena's part that holds the node records.
 pub(crate) fn write_keys(nodes: &[u16], width: u16, count: u16, keys: &mut [u16]) -> Listing
     requires { ⌜ count ≤ 1024 ⌝ }
     ensures answer { λ r. ⌜ listingReply r ≡ replied
@@ -48,7 +52,7 @@ pub(crate) fn write_keys(nodes: &[u16], width: u16, count: u16, keys: &mut [u16]
         (now (keys .entry))
         (chainKeys width (now (nodes .entry)) count ++ drop (length (chainKeys width (now (nodes .entry)) count)) (now (keys .entry))) ⌝ }
 {
-    // A refusal writes nothing, so the keys wait in a row. No chain has more keys than there are nodes.
+    // A refusal writes nothing, so the keys wait in a row. There are no more keys than nodes.
     let mut row = [0u16; 1024];
     let found = survey(nodes, width, count, &mut row);
     if let Listing::Keys(n) = found {

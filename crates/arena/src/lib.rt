@@ -1,4 +1,4 @@
-// What may be called on an arena (document 01: board) as a whole: lay a fresh one, start a call on a worker, list the chain.
+// What may be called on an arena (document 01: board) as a whole: lay a fresh one, start a call on a worker, list its set.
 ghost use mathlib.Core.Path.{_≡_};
 ghost use mathlib.Core.List.{[]};
 ghost use lib.ListN.{length};
@@ -76,7 +76,7 @@ fn call_verdict(arena: &[u16], worker: u16, operation: u16, key: u16, length: u1
     Verdict::Accepted
 }
 
-// The keys on the chain between Head and Tail, in chain order (document 01: the roll). Words past them stay.
+// The keys of the set, rising (document 01: the roll). Words past them stay.
 pub fn snapshot(arena: &[u16], keys: &mut [u16]) -> Listing
     ensures answer { λ r. ⌜ listingReply r ≡ snapshotAnswer (now (arena .entry)) (length (now (keys .entry))) ⌝ }
     ensures words { λ _. ⌜ now (keys .exit) ≡ snapshotWords (now (arena .entry)) (now (keys .entry)) ⌝ }

@@ -8,8 +8,8 @@ use native.Mathlib.Numerals.{add-one}
 use native.Mathlib.Omega.{arith}
 use lib.ListN.{length, getD, take}
 use lib.Seq.{take-suc}
-use Rattle.linear.specs.Lists.{filter}
-use Rattle.linear.proofs.Times.{filter-append}
+use Rattle.arena.specs.Lists.{filter}
+use Rattle.linear.proofs.MoreTimes.{filter-append}
 use Rattle.schedule.specs.declared.Call.{Call}
 use Rattle.schedule.specs.declared.Wait.{Wait}
 use Rattle.bench_print.specs.Print.{waitText}

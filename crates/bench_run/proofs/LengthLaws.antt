@@ -19,10 +19,10 @@ use Rattle.words.proofs.Judged.{judged-refused, judged-accepted}
 use Rattle.arena.specs.Init.{freshWords}
 use Rattle.arena.specs.Snapshot.{keysOf}
 use Rattle.arena.proofs.ShortChains.{keys-few}
-use Rattle.linear.specs.Lists.{filter}
+use Rattle.arena.specs.Lists.{filter}
 use Rattle.linear.specs.Entries.{Entry, isTurn}
 use Rattle.linear.specs.History.{totals}
-use Rattle.linear.proofs.ListLaws.{filter-shorter}
+use Rattle.arena.proofs.ListLaws.{filter-shorter}
 use Rattle.linear.proofs.Timeline.{freshSchedule, Schedule, last, arena, sound}
 use Rattle.schedule.specs.declared.Call.{Call}
 use Rattle.schedule.specs.declared.Wait.{Wait}

@@ -19,7 +19,7 @@ use Rattle.words.proofs.Bounds.{counts}
 use Rattle.words.proofs.Judged.{judged-refused, judged-accepted, given-values}
 use Rattle.arena.specs.Init.{freshWords}
 use Rattle.arena.specs.Start.{startRefusals, startArena}
-use Rattle.arena.specs.Snapshot.{keysOf, snapshotRefusals}
+use Rattle.arena.specs.Snapshot.{keysOf, Listed}
 use Rattle.arena.proofs.FreshLaws.{fresh-length}
 use Rattle.lazy.specs.Turn.{turnOn, turnedArena, turnArena}
 use Rattle.linear.specs.Entries.{Entry, isTurn, after}
@@ -149,8 +149,7 @@ module _ (workers nodes : ℕ) (schedule : List ℕ) where
         ∙ take-at (arena run (last run)) (drop (total layout2 workers nodes) lent) (total layout2 workers nodes)
         (arena-length run (last run) (fresh-length layout2 workers nodes (omega (arith, counts layout2 workers nodes (passed .counts)))))
 
-    pub roll-room : accepted [] ≡ replied (snapshotRefusals (arenaAt (freshWords layout2 workers nodes) (entriesOf schedule) (length (entriesOf schedule)))
-        1024) []
+    pub roll-room : Listed (arenaAt (freshWords layout2 workers nodes) (entriesOf schedule) (length (entriesOf schedule))) (replicate 1024 0)
     roll-room = roll-fits run (last run)
 
     -- and these are the parts of what is printed

@@ -8,7 +8,7 @@ use Rattle.worker.specs.Refusals.{judged}
 use Rattle.words.specs.Layout.{layout2}
 use Rattle.arena.specs.Init.{freshWords}
 use Rattle.arena.specs.Snapshot.{keysOf}
-use Rattle.linear.specs.Lists.{filter}
+use Rattle.arena.specs.Lists.{filter}
 use Rattle.linear.specs.History.{arenaAt, totals}
 use Rattle.schedule.specs.declared.Call.{Call}
 use Rattle.schedule.specs.declared.Wait.{Wait}

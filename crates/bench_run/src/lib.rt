@@ -1,11 +1,9 @@
 // What the bench program prints for an input: the input is parsed, its schedule is run, and the history is printed.
-ghost use mathlib.Core.Path.{_≡_};
 ghost use mathlib.Core.List.{[], map, flatten};
 ghost use Prim.Native.Nat.{_≤_};
-ghost use lib.ListN.{take};
-ghost use Rattle.words.specs.Replies.{accepted, replied};
-ghost use Rattle.arena.specs.Snapshot.{keysOf, snapshotRefusals};
-ghost use Rattle.linear.specs.Lists.{filter};
+ghost use lib.ListN.{take, replicate};
+ghost use Rattle.arena.specs.Snapshot.{keysOf, Listed};
+ghost use Rattle.arena.specs.Lists.{filter};
 ghost use Rattle.bench_print.specs.Print.{Printed, waitText, rollText};
 ghost use Rattle.bench_run.specs.Output.{isWaitOf, callsText, outputOf, scheduleText};
 use arena::Listing;
@@ -93,9 +91,9 @@ fn print_waits(output: &mut [u8], at: usize, waits: [Wait; 4000], count: u16, ca
     next
 }
 
-// The keys on the chain of an arena that has at most as many as there are words for.
+// The keys of an arena's set, for which there are words enough.
 fn print_keys(output: &mut [u8], at: usize, arena: &[u16]) -> usize
-    requires { ⌜ accepted [] ≡ replied (snapshotRefusals (now arena) 1024) [] ⌝ }
+    requires { ⌜ Listed (now arena) (replicate 1024 0) ⌝ }
     ensures { λ r. ⌜ Printed (rollText (keysOf (now (arena .entry)))) (now (output .entry)) at (now (output .exit)) r ⌝ }
 {
     let mut keys = [0u16; 1024];

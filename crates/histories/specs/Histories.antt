@@ -5,7 +5,7 @@ use lib.ListN.{length, replicate}
 use Rattle.worker.specs.Worker.{add, remove, contains}
 use Rattle.worker.specs.Report.{answerNumber}
 use Rattle.worker.specs.declared.report.Answer.the-variants.{Yes, No, Full}
-use Rattle.linear.specs.Sets.{Label, setOf}
+use Rattle.arena.specs.Sets.{Label, setOf}
 use Rattle.linear.specs.Entries.{Entry}
 use Rattle.linear.specs.History.{Call, Wait, Totals, arenaAt, calls, waits, totals}
 use Rattle.linear.specs.Order.{inOrder}

@@ -42,7 +42,7 @@ module _ {nodes : ℕ} {s : State} (inv : Inv nodes s) (me : ℕ) where
   w = s .worker me
 
   -- an unmarked node with the key that the worker holds is in the set
-  in-set : {n : ℕ} → Holds w n → n < nodes → s .mark n ≡ 0 → s .key n ≡ w .key → w .stage ≢ 15 → Range (w .key) → In s (w .key)
+  pub in-set : {n : ℕ} → Holds w n → n < nodes → s .mark n ≡ 0 → s .key n ≡ w .key → w .stage ≢ 15 → Range (w .key) → In s (w .key)
   in-set {n} h l unmarked hit off range =
       record {
         node = n;

@@ -93,26 +93,28 @@ module _ {layout workers nodes : ℕ} {arena : List ℕ} (sound : Sound layout w
       ((λ i. turnOf (sym (own-record w known) i) (suc w) (sym (seen-same w known) i))
       ∙ none-accepts (turnRefusals (decode arena .worker w) (seenIn workers nodes (decode arena) w)) Refused _ passes)
 
-  -- an entry that is a turn
-  enters-turn : (entry : Entry) → isTurn entry ≡ true →
-      (entry .worker < workers → turnOn arena (entry .worker) ≡ Done (turnStep workers nodes (decode arena) (entry .worker))) →
-      Entered workers nodes arena entry
+  -- an entry that is the turn of such a worker
+  pub turn-enters : (entry : Entry) → isTurn entry ≡ true → entry .worker < workers →
+      NoneHolds (turnRefusals (decode arena .worker (entry .worker)) (seenIn workers nodes (decode arena) (entry .worker))) →
+      (eventOf arena entry ≡ turnReported (turnStep workers nodes (decode arena) (entry .worker) .report))
+      × (decode (after arena entry) ≡ stepped (decode arena) (entry .worker) (turnStep workers nodes (decode arena) (entry .worker)))
   unfolding eventOf after turnArena
-  enters-turn entry turn does =
+  turn-enters entry turn known passes =
       let w = entry .worker in
       let step = turnStep workers nodes (decode arena) w in
+      let done = turn-done w known passes in
+      let there : w < workersOf arena = omega (arith, sound .workers-are) in
+      let writes : after arena entry ≡ steppedArena arena w step = rw turn (ap (turnedArena arena w) done) in
       let told : Turned → Event = λ t. turnEvent (outcomeOf t) in
-      elim (decLt w workers) [
-        | yes known ↦
-            let done = does known in
-            let there : w < workersOf arena = omega (arith, sound .workers-are) in
-            let writes : after arena entry ≡ steppedArena arena w step = rw turn (ap (turnedArena arena w) done) in
-            turns (rw turn (ap told done)) turn known
-            (ap decode writes ∙ state-steps arena (sound .none) w step there (effect-below arena w done))
-        | no unknown ↦
-            let none-such = turn-unknown w (omega arith) in
-            refuses noSuchWorker (rw turn (ap told none-such)) (rw turn (ap (turnedArena arena w) none-such)) (λ _. refl)
-      ]
+      (rw turn (ap told done), ap decode writes ∙ state-steps arena (sound .none) w step there (effect-below arena w done))
+
+  -- and of one that there is not
+  refuses-turn : (entry : Entry) → isTurn entry ≡ true → workers ≤ entry .worker → Entered workers nodes arena entry
+  unfolding eventOf after turnArena
+  refuses-turn entry turn unknown =
+      let none-such = turn-unknown (entry .worker) unknown in
+      let told : Turned → Event = λ t. turnEvent (outcomeOf t) in
+      refuses noSuchWorker (rw turn (ap told none-such)) (rw turn (ap (turnedArena arena (entry .worker)) none-such)) (λ _. refl)
 
   -- an entry that is a start
   enters-start : (entry : Entry) → isTurn entry ≡ false → Entered workers nodes arena entry
@@ -149,7 +151,10 @@ entered {layout} {workers} {nodes} {arena} sound passes entry = go (isTurn entry
   where
     go : (t : Bool) → isTurn entry ≡ t → Entered workers nodes arena entry
     go true turn =
-        enters-turn sound entry turn (λ known. turn-done sound (entry .worker) known (passes (entry .worker) known))
+        elim (decLt (entry .worker) workers) [
+          | yes known ↦ let enters = turn-enters sound entry turn known (passes (entry .worker) known) in turns (enters .0) turn known (enters .1)
+          | no unknown ↦ refuses-turn sound entry turn (omega arith)
+        ]
     go false start = enters-start sound entry start
 
 -- what holds of an arena, and of it after any step of the entry's worker, holds of it after the entry

@@ -9,8 +9,7 @@ use native.Mathlib.Omega.{arith}
 use lib.Dec.{eqb}
 use borrow.Author.Tests.{eqb-true, eqb-false}
 use Rattle.worker.specs.declared.report.Step.{Step}
-use Rattle.arena.specs.Snapshot.{isNone}
-use Rattle.linear.specs.Sets.{setOf}
+use Rattle.arena.specs.Sets.{isNone, setOf}
 use Rattle.linear.proofs.LabelLaws.{member-find, absent-find}
 use Rattle.linear.proofs.State.{State, keptLength, decode, stepped, startStep}
 use Rattle.linear.proofs.Promises.{Live}

@@ -18,6 +18,7 @@ use Rattle.linear.proofs.Longer.{sound-longer, state-same, unseen}
 use Rattle.linear.proofs.FreshState.{FreshState, fresh-sound, fresh-state}
 use Rattle.linear.proofs.Timeline.{Schedule, freshSchedule, sound}
 use Rattle.linear.proofs.Rests.{all-rest}
+use Rattle.linear.proofs.TrueSnapshots.{all-true}
 use Rattle.linear.proofs.Waiting.{all-blocked}
 use Rattle.linear.proofs.Theorem.{proved, unmet, sets-exact}
 
@@ -87,6 +88,7 @@ module _ (lent : List ℕ) (layout workers nodes : ℕ) (entries : List Entry) (
         exact-sets = sets-exact r;
         resting = all-rest r;
         waiting = all-blocked r;
+        true-snapshots = all-true r;
       }
 
 pub as-fresh : LaidAsFresh

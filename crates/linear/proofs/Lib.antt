@@ -1,9 +1,8 @@
 -- The proof of demand 3.
-pub mod ListLaws
-pub mod Times
+pub mod TimeLaws
+pub mod MoreTimes
 pub mod OrderLaws
 pub mod LabelLaws
-pub mod SetLaws
 pub mod SequentialLaws
 pub mod Simulation
 pub mod State
@@ -28,7 +27,9 @@ pub mod Passes
 pub mod FreeNodes
 pub mod FreshInvariant
 pub mod Members
+pub mod LookUps
 pub mod Timeline
+pub mod TrueSnapshots
 pub mod Rests
 pub mod Locks
 pub mod Owners

@@ -16,7 +16,7 @@ use Rattle.worker.specs.declared.report.Answer.the-variants.{No}
 use Rattle.worker.specs.declared.report.Report.{Report}
 use Rattle.worker.specs.declared.report.Step.{Step}
 use Rattle.worker.proofs.Laws.{range-bounds, call-length}
-use Rattle.arena.specs.Snapshot.{isNone}
+use Rattle.arena.specs.Sets.{isNone}
 use Rattle.linear.specs.Entries.{callStarted, turnReported, isReported, isFinished}
 use Rattle.linear.specs.History.{isDecision, finishesAt, decidesAt}
 use Rattle.linear.proofs.Reach.{here, same?}

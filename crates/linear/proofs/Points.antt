@@ -10,9 +10,9 @@ use Rattle.worker.specs.Worker.{contains}
 use Rattle.worker.specs.Report.{answerNumber}
 use Rattle.worker.specs.declared.Worker.{Worker}
 use Rattle.worker.specs.declared.report.Answer.the-variants.{No}
-use Rattle.linear.specs.Lists.{first}
+use Rattle.linear.specs.Times.{first}
 use Rattle.linear.specs.History.{Call, absentAt, finishOf, decisionOf, answerOf, pointOf, callAt}
-use Rattle.linear.proofs.ListLaws.{first-none, first-is, first-found}
+use Rattle.linear.proofs.TimeLaws.{first-none, first-is, first-found}
 use Rattle.linear.proofs.Simulation.{Does, does-early}
 use Rattle.linear.proofs.Timeline.{Begun, has, label, own-worker, Schedule, state, last, entry, decisive, finishing, call-at}
 use Rattle.linear.proofs.Phases.{Settled, acts, looks-up, Decided, Phase, runs, closes, finished, phase-at}

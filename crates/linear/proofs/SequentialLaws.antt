@@ -4,7 +4,7 @@ use mathlib.Core.List.{List}
 use mathlib.Core.Bool.{Bool, true, false}
 use Rattle.worker.specs.Worker.{add, remove, contains}
 use Rattle.worker.specs.declared.report.Answer.the-variants.{Yes, No, Full}
-use Rattle.linear.specs.Sets.{Label, member}
+use Rattle.arena.specs.Sets.{Label, member}
 use Rattle.linear.specs.Sequential.{including, excluding, responds, addTo, removeFrom, lookIn, responseTo}
 
 module _ (labels : List Label) (label : Label) where

@@ -15,7 +15,7 @@ use Rattle.worker.specs.declared.report.Effect.the-variants.{Nothing, SetOwner,
 use Rattle.words.specs.Layout.{word, layoutOf, workersOf, nodeWidth, nodeKey, nodeNext, nodeMark, nodeOwner, hasLength}
 use Rattle.words.specs.Records.{workerAt}
 use Rattle.lazy.specs.Turn.{seenOf}
-use Rattle.linear.specs.Sets.{nodeIn}
+use Rattle.arena.specs.Sets.{nodeIn}
 
 pub record State : Type 0 where
   pub key : ℕ → ℕ

@@ -20,7 +20,7 @@ use Rattle.worker.proofs.TurnLaws.{step-row}
 use Rattle.linear.specs.Entries.{turnReported, isFinished}
 use Rattle.linear.specs.History.{Call, finishOf, callAt}
 use Rattle.linear.specs.Linearizable.{Tells}
-use Rattle.linear.proofs.ListLaws.{first-holds}
+use Rattle.linear.proofs.TimeLaws.{first-holds}
 use Rattle.linear.proofs.Reach.{same?}
 use Rattle.linear.proofs.State.{State, seenIn}
 use Rattle.linear.proofs.Promises.{hasAnswer}

@@ -10,15 +10,17 @@ use Rattle.worker.specs.Refusals.{noSuchWorker, brokenRecord, brokenChain}
 use Rattle.worker.specs.declared.report.Report.{Report}
 use Rattle.words.specs.Layout.{goodCounts}
 use Rattle.arena.specs.Init.{freshWords}
-use Rattle.linear.specs.Lists.{filter, Pairs}
+use Rattle.arena.specs.Lists.{filter, Pairs}
 use Rattle.linear.specs.Entries.{Entry, turnReported, entryRefused}
 use Rattle.linear.specs.History.{Call, entryAt, arenaAt, eventAt, calls}
 use Rattle.linear.specs.Order.{hasPoint, rank, inOrder, Before}
 use Rattle.linear.specs.Linearizable.{Linearizable, Unbroken, ExactSets, Resting, Waiting}
-use Rattle.linear.proofs.ListLaws.{from-filter, from-map, from-times, each-of, pairs-mapped, pairs-filter, pairs-weaken}
+use Rattle.linear.specs.Snapshots.{TrueSnapshots}
+use Rattle.arena.proofs.ListLaws.{from-filter, from-map, each-of, pairs-filter, pairs-weaken}
+use Rattle.linear.proofs.TimeLaws.{from-times, pairs-mapped}
 use Rattle.linear.proofs.OrderLaws.{from-sorted, sorted-pairs}
 use Rattle.linear.proofs.LabelLaws.{rising-same}
-use Rattle.linear.proofs.SetLaws.{set-rises, set-members}
+use Rattle.arena.proofs.SetLaws.{set-rises, set-members}
 use Rattle.linear.proofs.Simulation.{Placed, Apart, placed-answer, simulated}
 use Rattle.linear.proofs.Reach.{Reach, here, on, stuck}
 use Rattle.linear.proofs.Bridge.{Entered, refuses, starts, turns}
@@ -26,6 +28,7 @@ use Rattle.linear.proofs.FreshState.{FreshState}
 use Rattle.linear.proofs.Invariant.{In}
 use Rattle.linear.proofs.Members.{whole}
 use Rattle.linear.proofs.Timeline.{sound, Begun, begun-at, label, start, entered-at, always, Schedule, freshSchedule, arena, state, last, starts-at, call-at, calls-of, in-order-of}
+use Rattle.linear.proofs.TrueSnapshots.{all-true}
 use Rattle.linear.proofs.Rests.{all-rest}
 use Rattle.linear.proofs.Keys.{absent-of, not-found}
 use Rattle.linear.proofs.Points.{Fate, fate}
@@ -184,3 +187,7 @@ resting layout workers nodes entries good = all-rest (freshSchedule layout worke
 -- and a wait is a turn of its call, and names another worker, a busy one
 pub waiting : (layout workers nodes : ℕ) (entries : List Entry) → goodCounts layout workers nodes ≡ true → Waiting (freshWords layout workers nodes) entries
 waiting layout workers nodes entries good = all-blocked (freshSchedule layout workers nodes entries good)
+
+-- and a snapshot, wherever there is room for N less 2 keys, lists what a look-up is told that starts then and is alone
+pub true-snapshots : (layout workers nodes : ℕ) (entries : List Entry) → goodCounts layout workers nodes ≡ true → TrueSnapshots (freshWords layout workers nodes) entries
+true-snapshots layout workers nodes entries good = all-true (freshSchedule layout workers nodes entries good)

@@ -17,7 +17,7 @@ use Rattle.words.specs.Layout.{goodCounts, nodeWidth, hasLength}
 use Rattle.words.specs.Records.{workerAt}
 use Rattle.words.proofs.Bounds.{counts}
 use Rattle.arena.specs.Init.{freshWords}
-use Rattle.linear.specs.Sets.{member, setOf}
+use Rattle.arena.specs.Sets.{member, setOf}
 use Rattle.linear.specs.Entries.{Entry, Event, callStarted, turnReported, entryRefused, isStarted, isReported, isFinished, eventOf}
 use Rattle.linear.specs.History.{Call, entryAt, arenaAt, eventAt, decidesAt, finishesAt, startsAt, callAt, calls}
 use Rattle.linear.specs.Order.{inOrder}

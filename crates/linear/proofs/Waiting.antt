@@ -16,12 +16,13 @@ use Rattle.worker.specs.declared.report.Report.the-variants as report
 use Rattle.worker.specs.declared.report.Effect.the-variants.{Nothing}
 use Rattle.words.specs.Layout.{nodeOwner}
 use Rattle.words.specs.Records.{workerAt}
-use Rattle.linear.specs.Lists.{filter}
+use Rattle.arena.specs.Lists.{filter}
 use Rattle.linear.specs.Entries.{Entry, Event, callStarted, turnReported, entryRefused, isWaits, isFinished, eventValues}
 use Rattle.linear.specs.History.{arenaAt, startsCallOf, callNumber, finishOf, callAt, calls, times, waitsAt, waitAt, waits, totals}
 use Rattle.linear.specs.Linearizable.{Blocked, Waiting}
-use Rattle.linear.proofs.ListLaws.{from-map, from-filter, from-times, first-past}
-use Rattle.linear.proofs.Times.{passing, passing-place, latest-is}
+use Rattle.arena.proofs.ListLaws.{from-map, from-filter}
+use Rattle.linear.proofs.TimeLaws.{from-times, first-past}
+use Rattle.linear.proofs.MoreTimes.{passing, passing-place, latest-is}
 use Rattle.linear.proofs.State.{State, wordAfter, stepped}
 use Rattle.linear.proofs.Bridge.{Entered, refuses, starts as starts-call, turns}
 use Rattle.linear.proofs.Timeline.{Schedule, begun-at, arena, state, entry, outcome, outcome-is, starts-at, finishing, call-at, last, always, sound, own-worker, idle-past, entered-at, step-at}

@@ -10,6 +10,7 @@ use Rattle.arena.specs.Init.{freshWords, initAnswer, initArena}
 use Rattle.linear.specs.Entries.{Entry, eventOf, after}
 use Rattle.linear.specs.History.{arenaAt, eventAt}
 use Rattle.linear.specs.Linearizable.{Linearizable, Unbroken, ExactSets, Resting, Waiting}
+use Rattle.linear.specs.Snapshots.{TrueSnapshots}
 
 -- further words behind an arena: an entry does not look at them, and they stay
 pub record Unseen (arena more : List ℕ) (entry : Entry) : Type 0 where
@@ -32,6 +33,7 @@ pub record AsFresh (lent : List ℕ) (layout workers nodes : ℕ) (entries : Lis
   pub exact-sets : ExactSets (initArena lent layout workers nodes) entries
   pub resting : Resting (initArena lent layout workers nodes) entries
   pub waiting : Waiting (initArena lent layout workers nodes) entries
+  pub true-snapshots : TrueSnapshots (initArena lent layout workers nodes) entries
 
 -- so it is in every slice that init accepts (`LentLaws.as-fresh`)
 abbrev pub LaidAsFresh : Type 0

@@ -1,9 +1,9 @@
 -- Demand 3: every list of starts and turns from a fresh arena is linearizable.
-pub mod Lists
-pub mod Sets
+pub mod Times
 pub mod Entries
 pub mod History
 pub mod Order
 pub mod Sequential
 pub mod Linearizable
+pub mod Snapshots
 pub mod Lent

@@ -12,7 +12,7 @@ use Rattle.worker.specs.declared.report.Answer.{Answer}
 use Rattle.worker.specs.declared.report.Report.the-variants.{Finished}
 use Rattle.words.specs.Layout.{workersOf}
 use Rattle.words.specs.Records.{workerAt}
-use Rattle.linear.specs.Sets.{Label, nodeIn, ChainWhole, setOf, InSet}
+use Rattle.arena.specs.Sets.{Label, nodeIn, ChainWhole, setOf, InSet}
 use Rattle.linear.specs.Entries.{Entry, isTurn, turnReported, entryRefused}
 use Rattle.linear.specs.History.{Call, Wait, entryAt, arenaAt, eventAt, calls, waits}
 use Rattle.linear.specs.Order.{inOrder}

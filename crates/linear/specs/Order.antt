@@ -5,7 +5,7 @@ use mathlib.Core.Logic.{_⊎_}
 use mathlib.Core.List.{List, [], _∷_, List·Permᴰ}
 use mathlib.Core.Bool.{Bool, cond, not, _&&_, _||_}
 use lib.Dec.{leb, ltb, eqb}
-use Rattle.linear.specs.Lists.{filter, Pairs}
+use Rattle.arena.specs.Lists.{filter, Pairs}
 use Rattle.linear.specs.Entries.{Entry}
 use Rattle.linear.specs.History.{Call, isLate, calls}
 

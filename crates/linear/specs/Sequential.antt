@@ -7,7 +7,7 @@ use Rattle.worker.specs.Worker.{add, remove}
 use Rattle.worker.specs.Report.{answerNumber}
 use Rattle.worker.specs.declared.report.Answer.{Answer}
 use Rattle.worker.specs.declared.report.Answer.the-variants.{Yes, No, Full}
-use Rattle.linear.specs.Sets.{Label, member}
+use Rattle.arena.specs.Sets.{Label, member}
 use Rattle.linear.specs.History.{Call}
 
 -- the labels with one more, in its place, and without the one of a key

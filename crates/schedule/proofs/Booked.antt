@@ -16,11 +16,12 @@ use Rattle.worker.specs.declared.report.Report.the-variants as report
 use Rattle.words.specs.Layout.{workersOf}
 use Rattle.words.specs.Records.{workerAt}
 use Rattle.words.proofs.Bounds.{counts}
-use Rattle.linear.specs.Sets.{member, setOf}
-use Rattle.linear.specs.Lists.{filter, timesFrom}
+use Rattle.arena.specs.Sets.{member, setOf}
+use Rattle.arena.specs.Lists.{filter}
+use Rattle.linear.specs.Times.{timesFrom}
 use Rattle.linear.specs.Entries.{Event, callStarted, turnReported, entryRefused, isStarted, isReported, isRefused, isWaits}
 use Rattle.linear.specs.History.{arenaAt, eventAt}
-use Rattle.linear.proofs.Times.{passing, passing-same, passing-count}
+use Rattle.linear.proofs.MoreTimes.{passing, passing-same, passing-count}
 use Rattle.linear.proofs.Keys.{has-started}
 use Rattle.linear.proofs.Timeline.{Schedule, Begun, Happens, nothing, start, turn, happens, has, arena, state, entry, outcome, outcome-is, starts-at, sound, own-worker}
 use Rattle.linear.proofs.Phases.{Open}

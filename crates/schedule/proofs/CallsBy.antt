@@ -6,13 +6,13 @@ use mathlib.Core.Bool.{true, false, cond, and-false}
 use native.Mathlib.Omega.{arith}
 use lib.Dec.{eqb}
 use borrow.Author.Tests.{ne-eqb}
-use Rattle.linear.specs.Lists.{first}
+use Rattle.linear.specs.Times.{first}
 use Rattle.linear.specs.Entries.{Entry}
 use Rattle.linear.specs.History.{Call, entryAt, finishOf, decisionOf, answerOf, pointOf, callAt}
-use Rattle.linear.proofs.ListLaws.{first-none, first-found}
+use Rattle.linear.proofs.TimeLaws.{first-none, first-found}
 use Rattle.linear.proofs.Timeline.{Schedule, Begun, last, entry, decisive, finishing, call-at}
 use Rattle.linear.proofs.Phases.{Open, Phase, runs, closes, finished, phase-at}
-use Rattle.linear.proofs.Times.{first-kept, first-same, first-now}
+use Rattle.linear.proofs.MoreTimes.{first-kept, first-same, first-now}
 
 module _ (r : Schedule) where
   -- a call is known by its start; its entry

@@ -14,8 +14,8 @@ use Rattle.worker.specs.Worker.{within}
 use Rattle.worker.specs.Refusals.{Refusal, judged}
 use Rattle.arena.specs.Start.{startRefusals}
 use Rattle.linear.specs.Entries.{Entry, callStarted, entryRefused, isTurn, isWaits, eventOf}
-use Rattle.linear.specs.Lists.{filter}
-use Rattle.linear.proofs.ListLaws.{filter-shorter}
+use Rattle.arena.specs.Lists.{filter}
+use Rattle.arena.proofs.ListLaws.{filter-shorter}
 use Rattle.schedule.specs.Run.{entryWidth, entryOf, entriesOf, countIn}
 
 -- the four words from a place on, as an entry

@@ -8,7 +8,7 @@ use native.Mathlib.Omega.{arith}
 use lib.ListN.{length, drop, length-append}
 use Rattle.linear.specs.Entries.{Event, callStarted, turnReported, entryRefused, isStarted, isReported, isFinished}
 use Rattle.linear.specs.History.{arenaAt}
-use Rattle.linear.proofs.Times.{passing-more, passing-same}
+use Rattle.linear.proofs.MoreTimes.{passing-more, passing-same}
 use Rattle.linear.proofs.Timeline.{Schedule, Happens, nothing, start, turn, happens, arena, entry, outcome, outcome-is, starts-at}
 use Rattle.linear.proofs.Phases.{not-decided, not-finished}
 use Rattle.linear.proofs.Waiting.{starts}

@@ -8,7 +8,7 @@ use lib.ListN.{length, getD, length-append}
 use Rattle.worker.specs.declared.report.Report.the-variants as report
 use Rattle.linear.specs.Entries.{Event, callStarted, turnReported, entryRefused, isWaits, eventValues}
 use Rattle.linear.specs.History.{waitsAt, waitAt}
-use Rattle.linear.proofs.Times.{passing, passing-more, passing-same}
+use Rattle.linear.proofs.MoreTimes.{passing, passing-more, passing-same}
 use Rattle.linear.proofs.Timeline.{Schedule, arena, entry, outcome, outcome-is}
 use Rattle.linear.proofs.OpenCalls.{At, open-at}
 use Rattle.linear.proofs.Waiting.{open-number, waiter-busy}

@@ -18,16 +18,16 @@ use Rattle.worker.specs.declared.report.Answer.the-variants.{Yes}
 use Rattle.worker.specs.declared.report.Report.{Report}
 use Rattle.worker.specs.declared.report.Step.{Step}
 use Rattle.words.specs.Records.{workerAt}
-use Rattle.linear.specs.Lists.{first}
+use Rattle.linear.specs.Times.{first}
 use Rattle.linear.specs.Entries.{turnReported}
 use Rattle.linear.specs.History.{isDecision, absentAt}
-use Rattle.linear.proofs.ListLaws.{first-found}
+use Rattle.linear.proofs.TimeLaws.{first-found}
 use Rattle.linear.proofs.State.{State, stepped}
 use Rattle.linear.proofs.After.{own-after}
 use Rattle.linear.proofs.Course.{Row, isMoved, goes-in, goes-out, present, missing, late, Course, rests, goes-on, settles, ends}
 use Rattle.linear.proofs.Keys.{has-kept, has-added, has-taken}
 use Rattle.linear.proofs.Timeline.{Schedule, has, arena, state, entry, outcome, own-worker, turn-known, always}
-use Rattle.linear.proofs.Times.{first-kept, first-same, first-now}
+use Rattle.linear.proofs.MoreTimes.{first-kept, first-same, first-now}
 use Rattle.schedule.specs.Book.{looksUp, missed, takesOut}
 
 -- a word that may have been written, at another place and at its own

@@ -11,13 +11,13 @@ use lib.ListN.{take, drop}
 use lib.Dec.{eqb}
 use borrow.Author.Tests.{eq-eqb, ne-eqb}
 use Rattle.worker.specs.Node.{head, tail}
-use Rattle.words.specs.Layout.{word, nodesOf, nodeWidth, nodePart}
+use Rattle.words.specs.Layout.{word, layoutOf, nodesOf, nodeWidth, nodePart}
 use Rattle.words.specs.Records.{nodeAt}
-use Rattle.linear.specs.Lists.{filter}
-use Rattle.linear.specs.Sets.{Label, member, nodeIn, isUnmarked, labelIn, ChainWhole, chainOf, setOf}
-use Rattle.linear.proofs.ListLaws.{from-filter, from-map}
+use Rattle.arena.specs.Lists.{filter}
+use Rattle.arena.specs.Sets.{Label, member, isUnmarked, chainLabels, nodeIn, labelIn, ChainWhole, setOf}
+use Rattle.arena.proofs.ListLaws.{from-filter, from-map}
 use Rattle.linear.proofs.LabelLaws.{present-find, from-find}
-use Rattle.linear.proofs.SetLaws.{keyOf, nextOf, Walked, ended, passed, walked-above, whole-walked}
+use Rattle.arena.proofs.SetLaws.{keyOf, nextOf, chainOf, Walked, ended, passed, walked-above, whole-walked}
 
 or-false : (a : Bool) → (a || false) ≡ a
 or-false true = refl
@@ -37,28 +37,31 @@ unfolding nodePart
 read-in arena f t w l node = rw (f, t, w, l)
 
 module _ (arena : List ℕ) (key : ℕ) where
+  abbrev unmarked : ℕ → Bool
+  unmarked = isUnmarked (nodeWidth (layoutOf arena)) (nodePart arena)
+
   -- the key is the key of an unmarked one of some nodes
   abbrev among : List ℕ → Bool
-  among nodes = member key (map (labelIn arena) (filter (isUnmarked arena) nodes))
+  among nodes = member key (map (labelIn arena) (filter unmarked nodes))
 
   -- not where all keys are above it
   not-among : (nodes : List ℕ) → ((node : ℕ) → List·Memᴰ node nodes → key < keyOf arena node) → among nodes ≡ false
   not-among nodes above =
       eq-false-eq-not-eq-true (among nodes) .0
       (λ there.
-      let it = present-find key (map (labelIn arena) (filter (isUnmarked arena) nodes)) there in
-      let found = from-map (labelIn arena) {xs = filter (isUnmarked arena) nodes} (from-find key (it .0) _ (it .1)) in
-      omega (arith, ap (λ (label : Label). label .key) (found .2), above (found .0) (from-filter (isUnmarked arena) (found .1) .0)))
+      let it = present-find key (map (labelIn arena) (filter unmarked nodes)) there in
+      let found = from-map (labelIn arena) {xs = filter unmarked nodes} (from-find key (it .0) _ (it .1)) in
+      omega (arith, ap (λ (label : Label). label .key) (found .2), above (found .0) (from-filter unmarked (found .1) .0)))
 
   -- the first of some nodes has the key or not, and then the others
   among-first : (node : ℕ) (nodes : List ℕ) →
-      among (node ∷ nodes) ≡ ((eqb key (keyOf arena node) && isUnmarked arena node) || among nodes)
+      among (node ∷ nodes) ≡ ((eqb key (keyOf arena node) && unmarked node) || among nodes)
   unfolding filter member
-  among-first node nodes = go (isUnmarked arena node)
+  among-first node nodes = go (unmarked node)
     where
-      go : (unmarked : Bool) →
-          member key (map (labelIn arena) (cond unmarked (node ∷ filter (isUnmarked arena) nodes) (filter (isUnmarked arena) nodes)))
-          ≡ ((eqb key (keyOf arena node) && unmarked) || among nodes)
+      go : (passes : Bool) →
+          member key (map (labelIn arena) (cond passes (node ∷ filter unmarked nodes) (filter unmarked nodes)))
+          ≡ ((eqb key (keyOf arena node) && passes) || among nodes)
       go true = and-true (eqb key (keyOf arena node))
         where
           and-true : (same : Bool) → (same || among nodes) ≡ ((same && true) || among nodes)
@@ -77,7 +80,7 @@ module _ (arena : List ℕ) (key : ℕ) where
     left : member key (setOf arena) ≡ among nodes
 
   pub begins : ChainWhole arena → Ahead (keyOf arena head) (nextOf arena head)
-  unfolding setOf
+  unfolding setOf chainLabels
   begins whole = record { nodes = chainOf arena; walked = whole-walked arena whole; left = refl }
 
   none-left : {last next : ℕ} {nodes : List ℕ} → Walked (nodesOf arena) (keyOf arena) (nextOf arena) last next nodes → next ≡ tail → nodes ≡ []
@@ -104,7 +107,7 @@ module _ (arena : List ℕ) (key : ℕ) where
 
   -- the key is that node's or one of those after it
   left-of : {last next : ℕ} (ahead : Ahead last next) (off : next ≢ tail) →
-      member key (setOf arena) ≡ ((eqb key (keyOf arena next) && isUnmarked arena next) || among (first (ahead .walked) off .others))
+      member key (setOf arena) ≡ ((eqb key (keyOf arena next) && unmarked next) || among (first (ahead .walked) off .others))
   left-of {next = next} ahead off =
       ahead .left ∙ ap among (first (ahead .walked) off .is) ∙ among-first next (first (ahead .walked) off .others)
 
@@ -126,4 +129,4 @@ module _ (arena : List ℕ) (key : ℕ) where
       sym
       (left-of ahead off
       ∙ rw (not-among (rest .others) (λ node m. omega (arith, walked-above (rest .onward) m)), or-false)
-      (ap (λ same. same && isUnmarked arena next) (eqb-sym key (keyOf arena next))))
+      (ap (λ same. same && unmarked next) (eqb-sym key (keyOf arena next))))

@@ -16,10 +16,11 @@ use Rattle.words.specs.Layout.{layout2, goodCounts, total}
 use Rattle.words.specs.Replies.{refused, accepted, replied}
 use Rattle.words.specs.Header.{headerRefusals}
 use Rattle.arena.specs.Init.{freshWords, initRefusals, initArena}
-use Rattle.linear.specs.Lists.{filter, timesFrom}
+use Rattle.arena.specs.Lists.{filter}
+use Rattle.linear.specs.Times.{timesFrom}
 use Rattle.linear.specs.Entries.{Entry, isTurn, isStarted, isRefused, isWaits, after}
 use Rattle.linear.specs.History.{entryAt, arenaAt, eventAt, callAt, calls, waitAt, waits as waits-of, totals}
-use Rattle.linear.proofs.Times.{passing, passing-count, filter-append, map-same}
+use Rattle.linear.proofs.MoreTimes.{passing, passing-count, filter-append, map-same}
 use Rattle.linear.proofs.Members.{whole}
 use Rattle.linear.proofs.Timeline.{freshSchedule, Schedule, Happens, nothing, start, turn, happens, arena, state, entry, outcome-is, starts-at, sound, always, last}
 use Rattle.linear.proofs.Waiting.{starts}

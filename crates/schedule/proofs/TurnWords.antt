@@ -18,8 +18,8 @@ use Rattle.worker.specs.declared.report.Step.{Step}
 use Rattle.words.specs.Records.{workerAt}
 use Rattle.linear.specs.Entries.{turnReported, isStarted, isFinished}
 use Rattle.linear.specs.History.{arenaAt, finishesAt, decidesAt, isDecision, isLate, answerOf, pointOf}
-use Rattle.linear.proofs.ListLaws.{first-none}
-use Rattle.linear.proofs.Times.{passing-same}
+use Rattle.linear.proofs.TimeLaws.{first-none}
+use Rattle.linear.proofs.MoreTimes.{passing-same}
 use Rattle.linear.proofs.State.{State, stepped}
 use Rattle.linear.proofs.After.{own-after}
 use Rattle.linear.proofs.Course.{Row, isMoved, Course, rests, goes-on, settles, ends}

@@ -7,8 +7,9 @@ use mathlib.Core.Bool.{true, false}
 use native.Mathlib.Omega.{arith}
 use native.Mathlib.Decide.{ℕ-discrete}
 use lib.ListN.{length, getD, set, length-map, List·getD-map}
-use Rattle.linear.proofs.ListLaws.{from-filter, from-times, pairs-times}
-use Rattle.linear.proofs.Times.{passing-place, map-same, map-set}
+use Rattle.arena.proofs.ListLaws.{from-filter}
+use Rattle.linear.proofs.TimeLaws.{from-times, pairs-times}
+use Rattle.linear.proofs.MoreTimes.{passing-place, map-same, map-set}
 use Rattle.linear.proofs.Timeline.{Schedule, Begun, begun-at, entry, starts-at, finishing, decisive}
 use Rattle.linear.proofs.Phases.{not-decided, not-finished}
 use Rattle.linear.proofs.OpenCalls.{only-open, At}

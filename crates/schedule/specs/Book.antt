@@ -12,8 +12,7 @@ use Rattle.worker.specs.declared.report.Answer.the-variants.{Yes}
 use Rattle.worker.specs.declared.report.Report.the-variants as report
 use Rattle.words.specs.Layout.{layoutOf, workersOf, nodesOf, nodeWidth, nodePart}
 use Rattle.words.specs.Records.{workerAt}
-use Rattle.arena.specs.Snapshot.{chain, isNone}
-use Rattle.linear.specs.Sets.{member, setOf}
+use Rattle.arena.specs.Sets.{chain, isNone, member, setOf}
 use Rattle.linear.specs.Entries.{Entry, Event, callStarted, turnReported, entryRefused, eventOf, after}
 use Rattle.linear.specs.History.{isDecision, isLate}
 use Rattle.schedule.specs.declared.Call.{Call}

@@ -9,7 +9,7 @@ use Rattle.worker.specs.Refusals.{Refusal, judged, badCounts, badSchedule, shor
 use Rattle.words.specs.Layout.{layout2, goodCounts, total}
 use Rattle.words.specs.Replies.{Reply, refused, accepted, replied, written}
 use Rattle.arena.specs.Init.{freshWords}
-use Rattle.linear.specs.Lists.{filter}
+use Rattle.arena.specs.Lists.{filter}
 use Rattle.linear.specs.Entries.{Entry, isTurn}
 use Rattle.linear.specs.History as history
 use Rattle.linear.specs.Linearizable.{Linearizable}

@@ -4,7 +4,7 @@ ghost use mathlib.Core.List.{[]};
 ghost use mathlib.Core.Bool.{false};
 ghost use Rattle.words.specs.Replies.{accepted, replied};
 ghost use Rattle.words.specs.Header.{headerRefusals};
-ghost use Rattle.linear.specs.Sets.{member, setOf};
+ghost use Rattle.arena.specs.Sets.{member, setOf};
 ghost use Rattle.schedule.specs.Book.{isBroken};
 use words::layout;
 use words::records;

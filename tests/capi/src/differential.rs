@@ -1,12 +1,14 @@
 //! Goes through the arenas and compares a library with the model on each.
 
 mod arenas;
+mod chain;
 mod comparer;
 mod coverage;
 mod damaged;
 mod lent;
 mod met;
 mod met_lengths;
+mod met_rolls;
 mod placed;
 mod reached;
 mod requests;
@@ -21,10 +23,10 @@ mod wrong_turns;
 use std::sync::atomic::{AtomicU64, Ordering};
 use std::thread;
 
-use model::arena::{check_header, LAYOUT_2, MAX_NODES, STAGE};
+use model::arena::{check_header, set, LAYOUT_2, STAGE};
 use model::rng::Rng;
 
-use crate::library::Library;
+use crate::library::{Library, Values};
 use arenas::{Arenas, Kind};
 use comparer::{Comparer, Outcome};
 use coverage::Column;
@@ -119,8 +121,6 @@ struct Examiner<'a> {
     seed: u64,
     comparer: Comparer<'a>,
     tally: Tally,
-    /// Where the model writes keys when their number alone is wanted.
-    keys: Vec<u16>,
     /// Whether every comparison is printed, and not only mismatches.
     tells_all: bool,
 }
@@ -131,7 +131,6 @@ impl<'a> Examiner<'a> {
             seed: comparison.seed,
             comparer: Comparer::new(comparison.library),
             tally: Tally::default(),
-            keys: vec![0; MAX_NODES as usize],
             tells_all: false,
         }
     }
@@ -144,8 +143,7 @@ impl<'a> Examiner<'a> {
         self.compare(number, words, &requests::turn(rng, arenas));
         self.compare(number, words, &requests::turn(rng, arenas));
         self.compare(number, words, &requests::start(rng, arenas));
-        let snapshot = requests::snapshot(rng, words, &mut self.keys);
-        self.compare(number, words, &snapshot);
+        self.compare(number, words, &requests::snapshot(rng, words));
         if rng.chance(5) {
             let (length, init) = requests::init(rng);
             self.compare(number, &fitted(words, length), &init);
@@ -159,20 +157,8 @@ impl<'a> Examiner<'a> {
     fn compare(&mut self, number: u64, words: &[u16], request: &Request) {
         let kind = Kind::of(number);
         let outcome = self.comparer.compare(words, request);
-        let (reply, stage) = (outcome.model_reply, stage_before(words, request));
-        let layout = layout_of(words, request);
-        let column = Column::of(layout, kind.is_reached());
-        let coverage = &mut self.tally.coverage;
-        coverage.note(request.entry_point(), reply, stage, column);
-        if let Some(wait) = TurnWait::read(words, request, reply) {
-            if kind.is_reached() {
-                coverage.note_wait(wait.is_for_other_busy());
-            }
-            self.tally.met.note_wait(&wait);
-        }
-        let written = self.comparer.last_run();
-        self.tally.met.note_reply(request, reply, written);
-        self.tally.met.note_length(words, request, reply);
+        let reply = outcome.model_reply;
+        self.note(kind, words, request, reply);
         if self.tells_all {
             println!("{request}: the model's reply is {reply}");
         }
@@ -183,12 +169,39 @@ impl<'a> Examiner<'a> {
                 .mismatch(number, || describe(seed, number, request, &outcome));
         }
     }
+
+    /// Notes what the model was asked last, and replied.
+    fn note(&mut self, kind: Kind, words: &[u16], request: &Request, reply: u64) {
+        let Tally { coverage, met, .. } = &mut self.tally;
+        let (reached, stage) = (kind.is_reached(), stage_before(words, request));
+        let column = Column::of(layout_of(words, request), reached);
+        coverage.note(request.entry_point(), reply, stage, column);
+        if let Some(wait) = TurnWait::read(words, request, reply) {
+            if reached {
+                coverage.note_wait(wait.is_for_other_busy());
+            }
+            met.note_wait(&wait);
+        }
+        if let (Request::Snapshot { .. }, Some(values)) = (request, Values::read(reply)) {
+            let keys = &self.comparer.last_keys()[..values.first as usize];
+            coverage.note_roll(is_set_of(words, keys));
+        }
+        met.note_reply(request, reply, self.comparer.last_run());
+        met.note_length(words, request, reply);
+        met.note_roll(words, request, reply, reached);
+    }
 }
 
 /// The arena's words cut off, or repeated, to the length that is wanted.
 fn fitted(words: &[u16], length: usize) -> Vec<u16> {
     let repeated = words.iter().chain(&[7]).cycle();
     repeated.take(length).copied().collect()
+}
+
+/// Whether these are the keys of the set that the arena stands for.
+fn is_set_of(words: &[u16], keys: &[u16]) -> bool {
+    let set = set(words);
+    set.iter().map(|label| label.key).eq(keys.iter().copied())
 }
 
 /// The layout that is to be laid, or the one that the arena names.

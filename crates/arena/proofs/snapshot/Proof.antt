@@ -10,7 +10,8 @@ use Rattle.words.specs.Replies.{verdictReply, accepted as granted, replied}
 use Rattle.words.specs.Header.{headerRefusals}
 use Rattle.words.proofs.Judged.{refused-first, accepted-first}
 use Rattle.words.proofs.HeaderLaws.{Header, header-holds}
-use Rattle.arena.specs.Snapshot.{chainRefusals, keysOf, snapshotRefusals, snapshotAnswer, snapshotWords}
+use Rattle.arena.specs.Sets.{setOf}
+use Rattle.arena.specs.Snapshot.{chainKeys, chainRefusals, keysOf, snapshotRefusals, snapshotAnswer, snapshotWords}
 use Rattle.arena.proofs.snapshot.Statement.{statement}
 use Rattle.arena.proofs.snapshot.Tie as tie
 
@@ -46,7 +47,7 @@ few : tie.Need-write-keys-requires
 few c κs = omega (arith, header (c .before .before), c .before .before .word4 .ensures)
 
 accepted : tie.Need-returns-2
-unfolding snapshotAnswer snapshotWords snapshotRefusals keysOf nodePart
+unfolding snapshotAnswer snapshotWords snapshotRefusals keysOf setOf chainKeys nodePart
 accepted c =
     let reads = c .before .before .before .before .before in
     let args = reads .before .before .before .before .before .before .before .before .before .before .args in

@@ -1,6 +1,6 @@
 -- The snapshot is not refused, and its first words are the keys.
 use mathlib.Core.Path.{sym, ap, _∙_}
-use lib.ListN.{length-replicate, replicate}
+use lib.ListN.{replicate}
 use denote.Ref.{now}
 use borrow.Author.Needs.{needs}
 use Rattle.arena.specs.Snapshot.{listingReply}
@@ -12,14 +12,14 @@ refused : tie.Need-returns
 refused c =
     let start = c .before .before .before .before .before .before .before in
     let told = sym (ap listingReply (c .enum-told .given .1)) ∙ c .before .before .before .snapshot .ensures .0 in
-    absurd (not-refused (now (start .args .arena)) (replicate 1024 0) (rw length-replicate (start .pre)) told)
+    absurd (not-refused (now (start .args .arena)) (replicate 1024 0) (start .pre) told)
 
 printed : tie.Need-returns-2
 printed c =
     let start = c .before .before .before .before .before .before .before .before .before .before .before .before .before in
     let snapshot = c .before .before .before .before .before .before .before .before .before .snapshot in
     let told = sym (ap listingReply (c .before .before .before .before .before .before .count .given .1)) ∙ snapshot .ensures .0 in
-    let keys = keys-are (now (start .args .arena)) (replicate 1024 0) (rw length-replicate (start .pre)) told in
+    let keys = keys-are (now (start .args .arena)) (replicate 1024 0) (start .pre) told in
     rw (← keys, ← snapshot .ensures .1) (c .before .before .print-roll .ensures)
 
 pub print-keys-spec : {M : Type 1} → statement M

@@ -7,7 +7,7 @@ use native.Mathlib.Omega.{arith}
 use lib.ListN.{length, take}
 use borrow.Author.Needs.{needs}
 use borrow.Author.Tests.{eq-eqb, ne-eqb}
-use Rattle.linear.specs.Lists.{filter}
+use Rattle.arena.specs.Lists.{filter}
 use Rattle.history.specs.Rows.{noWait}
 use Rattle.bench_print.specs.Print.{Printed, waitText}
 use Rattle.bench_print.proofs.PrintLaws.{printed-none, printed-length, printed-then}

@@ -80,6 +80,11 @@ impl<'a> Comparer<'a> {
         }
     }
 
+    /// The words in which the model wrote the keys of the last snapshot.
+    pub fn last_keys(&self) -> &[u16] {
+        self.model.keys.words()
+    }
+
     /// What the model wrote in the last run.
     pub fn last_run(&self) -> Written<'_> {
         Written {

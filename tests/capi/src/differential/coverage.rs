@@ -106,6 +106,8 @@ pub struct Coverage {
     unknown: u64,
     /// Waits on arenas reached from a fresh one that name no other busy worker.
     stray: u64,
+    /// Accepted snapshots, on any arena, that list other keys than the set's.
+    not_the_set: u64,
 }
 
 impl Coverage {
@@ -133,13 +135,19 @@ impl Coverage {
         self.stray += u64::from(!for_other_busy);
     }
 
+    /// Notes an accepted snapshot.
+    pub fn note_roll(&mut self, is_the_set: bool) {
+        self.not_the_set += u64::from(!is_the_set);
+    }
+
     pub fn merge(&mut self, other: &Coverage) {
         let mine = self.replies.iter_mut().flatten().flatten();
         let mine = mine.chain(self.turns.iter_mut().flatten().flatten());
-        let mine = mine.chain([&mut self.unknown, &mut self.stray]);
+        let counts = [&mut self.unknown, &mut self.stray, &mut self.not_the_set];
+        let mine = mine.chain(counts);
         let theirs = other.replies.iter().flatten().flatten();
         let theirs = theirs.chain(other.turns.iter().flatten().flatten());
-        let theirs = theirs.chain([&other.unknown, &other.stray]);
+        let theirs = theirs.chain([&other.unknown, &other.stray, &other.not_the_set]);
         for (sum, more) in mine.zip(theirs) {
             *sum += more;
         }
@@ -155,6 +163,7 @@ impl Coverage {
         for (count, what) in [
             (self.unknown, "replies of no known form"),
             (self.stray, "waits from fresh for no other busy worker"),
+            (self.not_the_set, "snapshots that do not list the set"),
         ] {
             good.push(count == 0);
             if count != 0 {

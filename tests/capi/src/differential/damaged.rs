@@ -3,15 +3,38 @@
 use model::arena::*;
 use model::rng::Rng;
 
-use super::placed::{build_chain, fresh, place_worker, some_layout, words_past_total};
+use super::chain::Chain;
+use super::placed::{build_chain, fresh, place_worker, some_layout, some_mark, words_past_total};
 
-/// Changes one to three words of a good arena, its layout, or its length. A changed link may lead
-/// nowhere, past some keys, or into a circle.
+/// Changes one to three words of a good arena, its layout, its length, or its chain at a marked node.
+/// A changed link may lead nowhere, past some keys, or into a circle.
 pub fn damage(rng: &mut Rng, words: &mut Vec<u16>) {
     match rng.range(0, 99) {
         0..=9 => change_length(rng, words),
         10..=19 => change_layout(rng, words),
+        20..=34 => break_at_mark(rng, words),
         _ => change_words(rng, words),
+    }
+}
+
+/// Marks a node of the chain and breaks the chain there: its link leads to no node, its key is not
+/// above the one before, or the next key, if there is one, is not above its own.
+fn break_at_mark(rng: &mut Rng, words: &mut [u16]) {
+    let chain = Chain::of(words).expect("a good arena so far");
+    if chain.nodes.is_empty() {
+        return;
+    }
+    let place = rng.index(chain.nodes.len());
+    let (node, shape) = (chain.nodes[place], chain.shape);
+    let key_before = chain.word(chain.before(place), KEY);
+    let next = chain.word(node, NEXT).min(shape.nodes - 1);
+    let next_key = chain.word(next, KEY);
+    let at = shape.node_at(node);
+    words[at + MARK] = some_mark(rng);
+    match rng.range(0, 2) {
+        0 => words[at + NEXT] = *rng.pick(&[shape.nodes, shape.nodes + 1, NONE]),
+        1 => words[at + KEY] = key_before.saturating_sub(rng.word(0, 1)),
+        _ => words[at + KEY] = next_key.saturating_add(rng.word(0, 1)),
     }
 }
 

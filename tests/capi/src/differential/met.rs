@@ -8,6 +8,7 @@ use model::run::{ENTRY_WORDS, MAX_SCHEDULE_WORDS};
 
 use super::comparer::Written;
 use super::met_lengths;
+use super::met_rolls;
 use super::requests::Request;
 use super::schedules::needed;
 use crate::library::{self, Values, CALL_WORDS, WAIT_WORDS};
@@ -242,6 +243,7 @@ impl Met {
             println!("  {name:46} {count:10}{note}");
             count != 0
         };
-        ALL.into_iter().chain(met_lengths::ALL).map(line).collect()
+        let all = ALL.into_iter().chain(met_lengths::ALL);
+        all.chain(met_rolls::ALL).map(line).collect()
     }
 }

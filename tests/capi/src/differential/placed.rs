@@ -160,7 +160,8 @@ pub fn build_chain(rng: &mut Rng, words: &mut [u16], shape: Shape) {
             key += rng.word(1, largest_step);
             words[shape.node_at(last) + NEXT] = node;
             last = node;
-            [key, TAIL, u16::from(rng.chance(12)), 0, any_length(rng)]
+            let mark = if rng.chance(12) { some_mark(rng) } else { 0 };
+            [key, TAIL, mark, 0, any_length(rng)]
         } else if rng.chance(50) {
             let leads_to = rng.word(0, shape.nodes - 1);
             [usually(rng, 24), leads_to, 1, 0, any_length(rng)]
@@ -220,8 +221,13 @@ fn own_or_mark(rng: &mut Rng, node: &mut [u16], worker: u16) {
         node[OWNER] = *rng.pick(&[0, 0, worker + 1, worker + 1, 1, 2, NONE]);
     }
     if rng.chance(10) {
-        node[MARK] = *rng.pick(&[1, 2, 256, NONE]);
+        node[MARK] = some_mark(rng);
     }
+}
+
+/// The mark that a turn writes, or another one.
+pub fn some_mark(rng: &mut Rng) -> u16 {
+    *rng.pick(&[1, 1, 2, 256, NONE])
 }
 
 /// Mostly an operation that belongs to the stage.

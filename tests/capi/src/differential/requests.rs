@@ -6,6 +6,7 @@ use model::arena::*;
 use model::rng::Rng;
 
 use super::arenas::Arenas;
+use super::chain::Chain;
 use super::schedules;
 use crate::library::{Start, CALL_WORDS, WAIT_WORDS};
 
@@ -164,9 +165,14 @@ pub fn start(rng: &mut Rng, arenas: &Arenas) -> Request {
     }
 }
 
-/// Room for about as many keys as there are.
-pub fn snapshot(rng: &mut Rng, words: &[u16], keys: &mut [u16]) -> Request {
-    let count = model::arena::snapshot(words, keys).unwrap_or(2);
+/// Room for about as many keys as are listed, or as the chain has with the marked ones, which are
+/// passed over.
+pub fn snapshot(rng: &mut Rng, words: &[u16]) -> Request {
+    let count = match Chain::of(words) {
+        Some(chain) if rng.chance(50) => chain.nodes.len(),
+        Some(chain) => chain.listed(),
+        None => 2,
+    };
     let room = match rng.range(0, 3) {
         0 => count,
         1 => count.saturating_sub(1),

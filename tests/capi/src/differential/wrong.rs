@@ -25,7 +25,7 @@ struct Wrong {
 }
 
 const RIGHT: Wrong = Wrong {
-    name: "none of them",
+    name: "the model itself",
     init: |arena, layout, workers, nodes| Model.init(arena, layout, workers, nodes),
     start: |arena, worker, call| Model.start(arena, worker, call),
     turn: |arena, worker| Model.turn(arena, worker),
@@ -69,7 +69,7 @@ const fn wrong_run(name: &'static str, run: fn(Run) -> u64) -> Wrong {
     Wrong { name, run, ..RIGHT }
 }
 
-const WRONG: [Wrong; 72] = [
+const WRONG: [Wrong; 82] = [
     wrong_init("init writes a word past the total", init_past_total),
     wrong_init("init wants layout 2's words for both", init_more_words),
     wrong_init("init writes the other's total", init_other_total),
@@ -123,6 +123,16 @@ const WRONG: [Wrong; 72] = [
     wrong_snapshot("snapshot writes without room", snapshot_no_room),
     wrong_snapshot("snapshot looks at Tail's key", snapshot_tail_key),
     wrong_snapshot("snapshot: four words to a node", snapshot_narrow),
+    wrong_snapshot("snapshot lists marked nodes", snapshot_lists_marked),
+    wrong_snapshot("snapshot: only mark 1 is marked", snapshot_mark_one),
+    wrong_snapshot("snapshot: no check of a marked link", snapshot_marked_link),
+    wrong_snapshot("snapshot: no check of a marked key", snapshot_marked_key),
+    wrong_snapshot("snapshot forgets a marked key", snapshot_last_listed),
+    wrong_snapshot("snapshot ignores marked keys", snapshot_no_marked_keys),
+    wrong_snapshot("snapshot wants room for all nodes", snapshot_room_for_all),
+    wrong_snapshot("snapshot counts all nodes", snapshot_counts_all),
+    wrong_snapshot("snapshot leaves a marked key behind", snapshot_past_listed),
+    wrong_snapshot("snapshot looks at Head's mark", snapshot_head_mark),
     wrong_run("run swaps waits and calls", run_swaps_totals),
     wrong_run("run dates a no by its last reading", run_late_no),
     wrong_run("run names the call after a wait's", run_next_call),
@@ -143,6 +153,9 @@ const WRONG: [Wrong; 72] = [
     wrong_run("run stores every label with length 1", run_length_1),
     wrong_run("run is refused for a bad length", run_bad_length),
 ];
+
+/// Without a fault, so that the others are told for theirs and not for what they are made of.
+const FAULTLESS: [Wrong; 2] = [RIGHT, wrong_snapshot("snapshot's own walk", snapshot_walks)];
 
 impl Library for Wrong {
     fn init(&self, arena: &mut [u16], layout: u16, workers: u16, nodes: u16) -> u64 {
@@ -166,7 +179,7 @@ impl Library for Wrong {
     }
 }
 
-/// Tries every wrong library, and the model itself; gives for each whether it went as it should.
+/// Tries every wrong library, and those without a fault; gives for each whether it went as it should.
 pub fn check_all(seed: u64) -> Vec<bool> {
     let first_mismatch = |library: &Wrong| {
         let count = COUNT;
@@ -187,11 +200,14 @@ pub fn check_all(seed: u64) -> Vec<bool> {
         }
         good.push(told.is_some());
     }
-    let complaint = first_mismatch(&RIGHT);
-    match complaint {
-        Some(arenas) => println!("the model itself: BLAMED after {arenas} arenas"),
-        None => println!("the model itself: no mismatch in {COUNT} arenas"),
+    for library in &FAULTLESS {
+        let name = library.name;
+        let complaint = first_mismatch(library);
+        match complaint {
+            Some(arenas) => println!("{name}: BLAMED after {arenas} arenas"),
+            None => println!("{name}: no mismatch in {COUNT} arenas"),
+        }
+        good.push(complaint.is_none());
     }
-    good.push(complaint.is_none());
     good
 }

@@ -46,7 +46,7 @@ listed c =
           ∙ sym (keys-fit (args .width) (now (args .nodes)) (args .count) _ told _ _ _ (room .if1 .left)),
       ap (λ (words : List ℕ). words ++ drop (room .before .before .found .given .0 .0) (now (args .keys))) (c .before .before .write .ensures)
           ∙ keys-written (args .width) (now (args .nodes)) (args .count) _ told (replicate 1024 0) _ (now (args .keys))
-          (rw length-replicate (start .pre)) (survey .ensures .1) (room .if1 .left)
+          (rw length-replicate (omega (arith, start .pre))) (survey .ensures .1) (room .if1 .left)
           ∙ sym (keys-fit (args .width) (now (args .nodes)) (args .count) _ told _ _ _ (room .if1 .left)),
     )
 

@@ -9,7 +9,7 @@ use Rattle.worker.specs.Node.{withoutLength, head}
 use Rattle.worker.specs.declared.Node.{Node}
 use Rattle.words.specs.Records.{nodeAt}
 use Rattle.words.proofs.HeaderLaws.{Header, header-holds}
-use Rattle.linear.specs.Sets.{nodeIn}
+use Rattle.arena.specs.Sets.{nodeIn}
 use Rattle.schedule.proofs.Presence.{read-in, Ahead, begins, at-tail, rises, onward, found}
 use Rattle.schedule.proofs.present.is_present.Statement.{statement}
 use Rattle.schedule.proofs.present.is_present.Tie as tie

@@ -13,10 +13,9 @@ use borrow.Author.Tests.{eqb-true, eq-eqb, ne-eqb, ltb-true, lt-ltb}
 use Rattle.worker.specs.Node.{head, tail}
 use Rattle.words.specs.Layout.{layoutOf, nodesOf, nodeWidth, nodePart}
 use Rattle.words.specs.Records.{keyAt, nextAt}
-use Rattle.arena.specs.Snapshot.{walk, chain, isNone}
-use Rattle.linear.specs.Lists.{Pairs, alone, _ahead_}
-use Rattle.linear.specs.Sets.{Label, Rising, nodeIn, isUnmarked, labelIn, walkOf, ChainWhole, chainOf, setOf, OnChain, top, link, InSet}
-use Rattle.linear.proofs.ListLaws.{in-filter, from-filter, in-map, from-map, each-of, pairs-filter, pairs-map}
+use Rattle.arena.specs.Lists.{Pairs, alone, _ahead_}
+use Rattle.arena.specs.Sets.{Label, Rising, isNone, labelAt, isUnmarked, walk, chain, chainNodes, chainLabels, nodeIn, labelIn, ChainWhole, setOf, OnChain, top, link, InSet}
+use Rattle.arena.proofs.ListLaws.{in-filter, from-filter, in-map, from-map, each-of, pairs-filter, pairs-map}
 
 -- nodes below a count that links lead through from one node up to Tail, each with a key above the last
 pub data Walked (count : ℕ) (key next : ℕ → ℕ) : ℕ → ℕ → List ℕ → Type 0 where
@@ -76,7 +75,7 @@ mapped-none node none e = e
 mapped-none node (some rest) e = refl
 
 -- what holds of a list that is there, and of no nodes where none is, holds of what is taken for it
-or-empty : {Holds : List ℕ → Type 0} (found : Option (List ℕ)) → (isNone found ≡ true → Holds []) →
+pub or-empty : {Holds : List ℕ → Type 0} (found : Option (List ℕ)) → (isNone found ≡ true → Holds []) →
     ((nodes : List ℕ) → found ≡ some nodes → Holds nodes) → Holds (Option·getD found [])
 or-empty none empty holds = empty refl
 or-empty (some nodes) empty holds = holds nodes refl
@@ -101,6 +100,18 @@ module _ (width : ℕ) (words : List ℕ) (count : ℕ) where
             (dichotomy (ltb node count && ltb last (keyAt width words node)))
       ]
 
+  pub chain-walked : (nodes : List ℕ) → chain width words count ≡ some nodes →
+      Walked count (keyAt width words) (nextAt width words) (keyAt width words head) (nextAt width words head) nodes
+  unfolding chain
+  chain-walked = walk-walked 65536 (keyAt width words head) (nextAt width words head)
+
+  -- the labels of the unmarked ones rise: the walk passes a node only where its key is above the last, and a broken chain has no nodes
+  labels-rise : Rising (chainLabels width words count)
+  unfolding chainLabels chainNodes
+  labels-rise =
+      pairs-map (labelAt width words)
+      (pairs-filter (isUnmarked width words) (or-empty (chain width words count) (λ broken. alone) (λ nodes e. walked-rises (chain-walked nodes e))))
+
   -- where the keys of the chain rise to Tail, steps up to the highest key are enough
   module _ (rises : (n : ℕ) → OnChain (nextAt width words) count n → n ≢ tail →
       (nextAt width words n < count) × (keyAt width words n < keyAt width words (nextAt width words n)))
@@ -120,12 +131,15 @@ module _ (width : ℕ) (words : List ℕ) (count : ℕ) where
               (walk-whole steps (link on h (step .0)) q (omega arith)))
         ]
 
--- a node's key and next, of an arena
+-- a node's key and next, of an arena, and the nodes of its chain
 abbrev pub keyOf : List ℕ → ℕ → ℕ
 keyOf arena node = nodeIn arena node .key
 
 abbrev pub nextOf : List ℕ → ℕ → ℕ
 nextOf arena node = nodeIn arena node .next
+
+abbrev pub chainOf : List ℕ → List ℕ
+chainOf arena = chainNodes (nodeWidth (layoutOf arena)) (nodePart arena) (nodesOf arena)
 
 module _ (arena : List ℕ) where
   -- a chain whose keys rise to Tail is whole: each node has a key above the last, and keys are words, so 65,536 steps are enough
@@ -137,33 +151,26 @@ module _ (arena : List ℕ) where
   chain-whole any rises small =
       walk-whole (nodeWidth (layoutOf arena)) (nodePart arena) (nodesOf arena) rises small 65536 (top any) (λ q. omega arith) (omega arith)
 
-  -- the nodes that the walk finds
-  found-walked : (nodes : List ℕ) → walkOf arena ≡ some nodes →
-      Walked (nodesOf arena) (keyOf arena) (nextOf arena) (keyOf arena head) (nextOf arena head) nodes
-  unfolding chain
-  found-walked =
-      walk-walked (nodeWidth (layoutOf arena)) (nodePart arena) (nodesOf arena) 65536 (keyOf arena head) (nextOf arena head)
-
   pub whole-walked : ChainWhole arena → Walked (nodesOf arena) (keyOf arena) (nextOf arena) (keyOf arena head) (nextOf arena head) (chainOf arena)
-  unfolding chainOf
-  whole-walked whole = or-empty (walkOf arena) (λ broken. absurd (true≢false (sym broken ∙ whole))) found-walked
+  unfolding chainNodes
+  whole-walked whole =
+      or-empty _ (λ broken. absurd (true≢false (sym broken ∙ whole)))
+      (chain-walked (nodeWidth (layoutOf arena)) (nodePart arena) (nodesOf arena))
 
-  -- the keys of the set rise: the walk passes a node only where its key is above the last, and a broken chain has no nodes
+  -- the keys of the set rise
   pub set-rises : Rising (setOf arena)
-  unfolding setOf chainOf
-  set-rises =
-      pairs-map (labelIn arena)
-      (pairs-filter (isUnmarked arena) (or-empty (walkOf arena) (λ broken. alone) (λ nodes e. walked-rises (found-walked nodes e))))
+  unfolding setOf
+  set-rises = labels-rise (nodeWidth (layoutOf arena)) (nodePart arena) (nodesOf arena)
 
   -- and where the chain is whole, its labels are those of document 01's words
   pub set-members : ChainWhole arena → (label : Label) → List·Memᴰ label (setOf arena) ↔ InSet arena label
-  unfolding setOf
+  unfolding setOf chainLabels
   set-members whole label = (forth, back)
     where
       forth : List·Memᴰ label (setOf arena) → InSet arena label
       forth m =
           let found = from-map (labelIn arena) m in
-          let passed = from-filter (isUnmarked arena) (found .1) in
+          let passed = from-filter (isUnmarked (nodeWidth (layoutOf arena)) (nodePart arena)) (found .1) in
           let on = walked-on (λ low. link (top (omega arith)) (λ q. omega arith) low) (whole-walked whole) (passed .0) in
           let above = walked-above (whole-walked whole) (passed .0) in
           record {
@@ -178,4 +185,4 @@ module _ (arena : List ℕ) where
       back : InSet arena label → List·Memᴰ label (setOf arena)
       back s =
           let on = on-walked (whole-walked whole) (s .on-chain) (s .not-head) (s .not-tail) in
-          Memᴰ·cast (sym (s .has-label)) (in-map (labelIn arena) (in-filter (isUnmarked arena) on (eq-eqb _ _ (s .unmarked))))
+          Memᴰ·cast (sym (s .has-label)) (in-map (labelIn arena) (in-filter (isUnmarked (nodeWidth (layoutOf arena)) (nodePart arena)) on (eq-eqb _ _ (s .unmarked))))

@@ -12,8 +12,9 @@ use lib.ListN.{length, getD, set, length-append, List·getD-append}
 use lib.Seq.{getD-append-seam}
 use lib.Dec.{eqb}
 use borrow.Author.Tests.{ne-eqb}
-use Rattle.linear.specs.Lists.{filter, timesFrom, first, latest, Pairs, _ahead_}
-use Rattle.linear.proofs.ListLaws.{each-in}
+use Rattle.arena.specs.Lists.{filter, Pairs, _ahead_}
+use Rattle.linear.specs.Times.{timesFrom, first, latest}
+use Rattle.arena.proofs.ListLaws.{each-in}
 
 -- the first time at which a test holds, with one time more
 module _ (test : ℕ → Bool) where
