@@ -3,19 +3,36 @@ use Prim.Native.Nat.{ℕ, zero, suc, _+_, _≤_, _<_}
 use mathlib.Core.Path.{_≡_, refl, sym, _∙_}
 use mathlib.Core.Logic.{_≢_, _↔_, ⊎-elim}
 use mathlib.Core.List.{List, [], _∷_, List·Memᴰ, List·Memᴰ·head, List·Memᴰ·tail, List·Memᴰ·not-nil, List·Memᴰ·cases-cons, Memᴰ·cast}
-use mathlib.Core.Bool.{true, false, not, _&&_, true≢false}
+use mathlib.Core.Bool.{true, false, _&&_, true≢false, or-true}
 use mathlib.Core.Option.{Option, none, some, Option·map, Option·getD, Option·none-ne-some}
 use mathlib.Mathlib.Data.Bool.Basic.{dichotomy, and-elim-left, and-elim-right}
 use native.Mathlib.Omega.{arith}
 use native.Mathlib.Decide.{ℕ-discrete}
-use lib.Dec.{ltb}
+use lib.Dec.{ltb, eqb}
 use borrow.Author.Tests.{eqb-true, eq-eqb, ne-eqb, ltb-true, lt-ltb}
 use Rattle.worker.specs.Node.{head, tail}
 use Rattle.words.specs.Layout.{layoutOf, nodesOf, nodeWidth, nodePart}
 use Rattle.words.specs.Records.{keyAt, nextAt}
 use Rattle.arena.specs.Lists.{Pairs, alone, _ahead_}
-use Rattle.arena.specs.Sets.{Label, Rising, isNone, labelAt, isUnmarked, walk, chain, chainNodes, chainLabels, nodeIn, labelIn, ChainWhole, setOf, OnChain, top, link, InSet}
+use Rattle.arena.specs.Sets.{Label, Rising, member, keysIn, isNone, labelAt, isUnmarked, walk, chain, chainNodes, chainLabels, nodeIn, labelIn, ChainWhole, setOf, OnChain, top, link, InSet}
 use Rattle.arena.proofs.ListLaws.{in-filter, from-filter, in-map, from-map, each-of, pairs-filter, pairs-map}
+
+-- a key is a member where it is one of the keys
+pub member-key : (key : ℕ) (labels : List Label) → (member key labels ≡ true) ↔ List·Memᴰ key (keysIn labels)
+unfolding member
+member-key key labels = (forth labels, back labels)
+  where
+    forth : (labels : List Label) → member key labels ≡ true → List·Memᴰ key (keysIn labels)
+    forth [] e = absurd (true≢false (sym e))
+    forth (label ∷ labels) e =
+        ⊎-elim (λ other. List·Memᴰ·tail (forth labels (rw other at e))) (λ same. List·Memᴰ·head (eqb-true _ _ same))
+        (dichotomy (eqb key (label .key)))
+
+    back : (labels : List Label) → List·Memᴰ key (keysIn labels) → member key labels ≡ true
+    back [] m = absurd (List·Memᴰ·not-nil m)
+    back (label ∷ labels) m =
+        ⊎-elim (λ same. rw (eq-eqb key (label .key) same)) (λ there. rw (back labels there) (or-true (eqb key (label .key))))
+        (List·Memᴰ·cases-cons m)
 
 -- nodes below a count that links lead through from one node up to Tail, each with a key above the last
 pub data Walked (count : ℕ) (key next : ℕ → ℕ) : ℕ → ℕ → List ℕ → Type 0 where

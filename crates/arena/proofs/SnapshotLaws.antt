@@ -18,10 +18,10 @@ module _ (arena : List ℕ) (header : NoneHolds (headerRefusals arena)) (whole :
       judged (snapshotRefusals arena room) refuse accept ≡ accept
   unfolding snapshotRefusals chainRefusals chainBroken chainTooLong keysOf setOf chainKeys
   accepts room refuse accept enough =
-      judged-append (headerRefusals arena)
-      (chainRefusals (nodeWidth (layoutOf arena)) (nodePart arena) (nodesOf arena) room) refuse accept
+      let chain = chainRefusals (nodeWidth (layoutOf arena)) (nodePart arena) (nodesOf arena) room in
+      judged-append (headerRefusals arena) chain refuse accept
       ∙ none-accepts (headerRefusals arena) refuse _ header
-      ∙ rw (whole, le-ltb room (length (keysOf arena)) enough)
+      ∙ none-accepts chain refuse accept (whole, (le-ltb room (length (keysOf arena)) enough, tt))
 
   pub snapshot-lists : (lent : List ℕ) → length (keysOf arena) ≤ length lent → Listed arena lent
   unfolding snapshotAnswer snapshotWords

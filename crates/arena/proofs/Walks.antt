@@ -35,17 +35,13 @@ module _ (width : ℕ) (nodes : List ℕ) (count : ℕ) where
   gathered many row (some places) = some (many + length (listed places), sets row many (listed places))
 
   -- a node in front adds its key, or nothing where it is marked
-  gathered-on : (many node : ℕ) (row : List ℕ) (onward : Option (List ℕ)) → isUnmarked width nodes node ≡ true →
-      gathered many row (Option·map (λ rest. node ∷ rest) onward) ≡ gathered (many + 1) (set row many (keyAt width nodes node)) onward
+  gathered-on : (many node : ℕ) (row : List ℕ) (onward : Option (List ℕ)) (unmarked : Bool) → isUnmarked width nodes node ≡ unmarked →
+      gathered many row (Option·map (λ rest. node ∷ rest) onward)
+      ≡ gathered (cond unmarked (many + 1) many) (cond unmarked (set row many (keyAt width nodes node)) row) onward
   unfolding filter
-  gathered-on many node row none unmarked = refl
-  gathered-on many node row (some places) unmarked = rw (unmarked, add-one, suc-add, add-suc)
-
-  gathered-past : (many node : ℕ) (row : List ℕ) (onward : Option (List ℕ)) → isUnmarked width nodes node ≡ false →
-      gathered many row (Option·map (λ rest. node ∷ rest) onward) ≡ gathered many row onward
-  unfolding filter
-  gathered-past many node row none marked = refl
-  gathered-past many node row (some places) marked = rw marked
+  gathered-on many node row none unmarked e = refl
+  gathered-on many node row (some places) true e = rw (e, add-one, suc-add, add-suc)
+  gathered-on many node row (some places) false e = rw e
 
   -- a walk with steps left, at Tail, at a break, and at a node that it passes
   module _ (many last node : ℕ) (row : List ℕ) where
@@ -64,28 +60,16 @@ module _ (width : ℕ) (nodes : List ℕ) (count : ℕ) where
           rw (ne-eqb _ _ off, stops)
 
       -- where it goes on, one step is less
-      onward : (steps : ℕ) → 0 < steps → not (ltb node count && ltb last (n .key)) ≡ false →
-          walk width nodes count steps last node ≡ Option·map (λ rest. node ∷ rest) (walk width nodes count (steps - 1) (n .key) (n .next))
+      pub walk-on : (steps : ℕ) → 0 < steps → not (ltb node count && ltb last (n .key)) ≡ false →
+          (unmarked : Bool) → eqb (n .mark) 0 ≡ unmarked →
+          gathered many row (walk width nodes count steps last node)
+          ≡ gathered (cond unmarked (many + 1) many) (cond unmarked (set row many (n .key)) row) (walk width nodes count (steps - 1) (n .key) (n .next))
       unfolding walk
-      onward zero left k = absurd (omega arith)
-      onward (suc steps) left k =
+      walk-on zero left k unmarked e = absurd (omega arith)
+      walk-on (suc steps) left k unmarked e =
           let passes : (ltb node count && ltb last (keyAt width nodes node)) ≡ true = not-false _ (rw read at k) in
           rw (read, ne-eqb _ _ off, passes, sub-one)
-
-      pub walk-on : (steps : ℕ) → 0 < steps → not (ltb node count && ltb last (n .key)) ≡ false → n .mark ≡ 0 →
-          gathered many row (walk width nodes count steps last node)
-          ≡ gathered (many + 1) (set row many (n .key)) (walk width nodes count (steps - 1) (n .key) (n .next))
-      walk-on steps left k unmarked =
-          ap (gathered many row) (onward steps left k)
-          ∙ gathered-on many node row (walk width nodes count (steps - 1) (n .key) (n .next)) (eq-eqb _ _ (rw read at unmarked))
-          ∙ rw read
-
-      pub walk-past : (steps : ℕ) → 0 < steps → not (ltb node count && ltb last (n .key)) ≡ false → (n .mark ≡ 0 → ⊥) →
-          gathered many row (walk width nodes count steps last node)
-          ≡ gathered many row (walk width nodes count (steps - 1) (n .key) (n .next))
-      walk-past steps left k marked =
-          ap (gathered many row) (onward steps left k)
-          ∙ gathered-past many node row (walk width nodes count (steps - 1) (n .key) (n .next)) (ne-eqb _ _ (rw read at marked))
+          (gathered-on many node row (walk width nodes count steps (keyAt width nodes node) (nextAt width nodes node)) unmarked (rw read at e))
 
   pub rises : (node last key : ℕ) → not (ltb node count && ltb last key) ≡ false → last < key
   rises node last key k = ltb-true last key (and-eq-true-iff (ltb node count) (ltb last key) .0 (not-false _ k) .1)
@@ -177,14 +161,17 @@ module _ (width : ℕ) (nodes : List ℕ) (count : ℕ) where
 
     -- the room decides
     module _ {A : Type 0} (room : ℕ) (refuse : ℕ → A) (accept : A) where
+      abbrev judge : Bool → A
+      judge short = cond short (refuse noRoom) accept
+
       roomy : judged (chainRefusals width nodes count room) refuse accept ≡ judged (chainTooLong width nodes count room ∷ []) refuse accept
       unfolding chainRefusals
       roomy = accepted-first (chainBroken width nodes count ∷ []) (chainTooLong width nodes count room ∷ []) _ refuse accept found
 
       pub keys-fit : n ≤ room → judged (chainRefusals width nodes count room) refuse accept ≡ accept
       unfolding chainTooLong
-      keys-fit h = let k = keys-count in roomy ∙ rw (le-ltb room (length (chainKeys width nodes count)) (omega arith))
+      keys-fit h = let k = keys-count in roomy ∙ ap judge (le-ltb room (length (chainKeys width nodes count)) (omega arith))
 
       pub keys-short : room < n → judged (chainRefusals width nodes count room) refuse accept ≡ refuse noRoom
       unfolding chainTooLong
-      keys-short h = let k = keys-count in roomy ∙ rw (lt-ltb room (length (chainKeys width nodes count)) (omega arith))
+      keys-short h = let k = keys-count in roomy ∙ ap judge (lt-ltb room (length (chainKeys width nodes count)) (omega arith))

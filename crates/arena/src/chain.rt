@@ -28,10 +28,11 @@ fn survey(nodes: &[u16], width: u16, count: u16, row: &mut [u16]) -> Listing
     let mut listed: u16 = 0;
     while at != Node::TAIL {
         let node = read_node(nodes, width, at);
+        let unmarked = node.mark == 0;
         if !((at < count) & (last < node.key)) {
             return Listing::Refused(refusal::BROKEN_CHAIN);
         }
-        if node.mark == 0 {
+        if unmarked {
             put(row, listed as usize, node.key);
             listed += 1;
         }

@@ -20,6 +20,8 @@ fn main() {
     snapshots::chains();
     snapshots::breaks();
     snapshots::longer();
+    snapshots::marks();
+    snapshots::half_removed();
     circles::arenas();
     damage::stages();
     damage::refusals();

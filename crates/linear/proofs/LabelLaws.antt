@@ -1,9 +1,9 @@
 -- Laws of sets as lists of labels that rise by key.
 use Prim.Native.Nat.{ℕ, _≤_, _<_}
 use mathlib.Core.Path.{_≡_, refl, sym, ap, ap₂, _∙_}
-use mathlib.Core.Logic.{_≢_, _↔_, _⊎_, inl, inr, ⊎-elim}
+use mathlib.Core.Logic.{_≢_, _⊎_, inl, inr, ⊎-elim}
 use mathlib.Core.List.{List, [], _∷_, List·Memᴰ, List·Memᴰ·head, List·Memᴰ·tail, List·Memᴰ·not-nil, List·Memᴰ·cases-cons}
-use mathlib.Core.Bool.{Bool, true, false, cond, not, _||_, true≢false, or-true}
+use mathlib.Core.Bool.{Bool, true, false, cond, not, _||_, true≢false}
 use mathlib.Core.Option.{Option, none, some, Option·none-ne-some}
 use mathlib.Mathlib.Data.Bool.Basic.{dichotomy, or-eq-false-eq-eq-false-and-eq-false}
 use native.Mathlib.Omega.{arith}
@@ -11,7 +11,7 @@ use native.Mathlib.Decide.{ℕ-discrete}
 use lib.Dec.{ltb, eqb}
 use borrow.Author.Tests.{eqb-true, eqb-false, eq-eqb, ne-eqb, ltb-true, ltb-false}
 use Rattle.arena.specs.Lists.{filter, Each, none as nothing, _and_, alone, _ahead_}
-use Rattle.arena.specs.Sets.{Label, Rising, member, keysIn, isNone}
+use Rattle.arena.specs.Sets.{Label, Rising, member, isNone}
 use Rattle.arena.proofs.ListLaws.{each-in, each-of, pairs-filter}
 use Rattle.linear.specs.Sequential.{including, excluding}
 
@@ -66,23 +66,6 @@ in-find {label} (above ahead rises) (List·Memᴰ·head {x = first} same) =
     rw (eq-eqb (label .key) (first .key) (ap (λ (l : Label). l .key) same)) (ap (λ (l : Label). some (l .length)) (sym same))
 in-find {label} (above ahead rises) (List·Memᴰ·tail {x = first} m) =
     rw (ne-eqb (label .key) (first .key) (λ q. omega (arith, each-in above m))) (in-find rises m)
-
--- membership is by the keys
-pub member-key : (key : ℕ) (labels : List Label) → (member key labels ≡ true) ↔ List·Memᴰ key (keysIn labels)
-unfolding member
-member-key key labels = (forth labels, back labels)
-  where
-    forth : (labels : List Label) → member key labels ≡ true → List·Memᴰ key (keysIn labels)
-    forth [] e = absurd (true≢false (sym e))
-    forth (label ∷ labels) e =
-        ⊎-elim (λ other. List·Memᴰ·tail (forth labels (rw other at e))) (λ same. List·Memᴰ·head (eqb-true _ _ same))
-        (dichotomy (eqb key (label .key)))
-
-    back : (labels : List Label) → List·Memᴰ key (keysIn labels) → member key labels ≡ true
-    back [] m = absurd (List·Memᴰ·not-nil m)
-    back (label ∷ labels) m =
-        ⊎-elim (λ same. rw (eq-eqb key (label .key) same)) (λ there. rw (back labels there) (or-true (eqb key (label .key))))
-        (List·Memᴰ·cases-cons m)
 
 -- two tests, only one of which can hold, in either order
 exchanged : {A : Type 0} (t u : Bool) (a b c : A) → (t ≡ true → u ≡ true → ⊥) → cond t a (cond u b c) ≡ cond u b (cond t a c)

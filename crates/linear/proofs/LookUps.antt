@@ -127,9 +127,10 @@ module _ (layout workers nodes : ℕ) (s : State) (inv : Inv nodes s) (w key : �
             } in
             (λ _. ends looks 1 (step-row (me arena) _ _ (looks .at) ∙ rw e) (row-25 (looks .holds) w true e (looks .at)), λ out. absurd (out here))
         go false e =
-            let gone = nothing-ahead (inv .shape) (live-chain chain) (inr (hit, λ z. eqb-false _ _ e (mark-is looks ∙ z))) in
-            (λ i. absurd (gone (ahead i)),
-            λ _. ends looks 2 (step-row (me arena) _ _ (looks .at) ∙ rw e) (row-25 (looks .holds) w false e (looks .at)))
+            let gone = nothing-ahead (inv .shape) (live-chain chain) (inr (hit, λ z. eqb-false _ _ e (mark-is looks ∙ z))) in (
+              λ i. absurd (gone (ahead i)),
+              λ _. ends looks 2 (step-row (me arena) _ _ (looks .at) ∙ rw e) (row-25 (looks .holds) w false e (looks .at)),
+            )
 
     -- a higher key is told at once, and behind a lower one it goes on at the next node
     tells-23 : {arena : List ℕ} → Looks arena 23 curr →
@@ -156,9 +157,10 @@ module _ (layout workers nodes : ℕ) (s : State) (inv : Inv nodes s) (w key : �
         go false false b e =
             let over : me arena .key ≤ decode arena .key (me arena .curr) = ltb-false _ _ b in
             let other : decode arena .key (me arena .curr) ≢ me arena .key = eqb-false _ _ e in
-            let above : key < s .key curr = omega (arith, key-is looks, looks .own-key) in
-            (λ i. absurd (nothing-ahead (inv .shape) (live-chain chain) (inl above) (ahead i)),
-            λ _. ends looks 2 (step-row (me arena) _ _ (looks .at) ∙ rw (b, e)) (row-23 (looks .holds) w false false b e (looks .at)))
+            let above : key < s .key curr = omega (arith, key-is looks, looks .own-key) in (
+              λ i. absurd (nothing-ahead (inv .shape) (live-chain chain) (inl above) (ahead i)),
+              λ _. ends looks 2 (step-row (me arena) _ _ (looks .at) ∙ rw (b, e)) (row-23 (looks .holds) w false false b e (looks .at)),
+            )
 
   -- keys rise, so it does not go on for ever
   goes-along : (more : ℕ) {arena : List ℕ} {curr : ℕ} → Reach (s .next) 0 curr → (In s key → Ahead s curr key) → Looks arena 23 curr →

@@ -16,11 +16,11 @@ use Rattle.words.specs.Header.{headerRefusals}
 use Rattle.arena.specs.Start.{callRefusals, startRefusals}
 use Rattle.arena.specs.Sets.{setOf}
 use Rattle.arena.specs.Snapshot.{keysOf}
+use Rattle.arena.proofs.SetLaws.{member-key}
 use Rattle.arena.proofs.ShortChains.{keys-few}
 use Rattle.arena.proofs.SnapshotLaws.{snapshot-lists}
 use Rattle.linear.specs.Entries.{callStarted, entryRefused, eventOf, after}
 use Rattle.linear.specs.Snapshots.{lookUp, Answers, TrueSnapshots}
-use Rattle.linear.proofs.LabelLaws.{member-key}
 use Rattle.linear.proofs.State.{State, shapeOf, decode, stepped, startStep}
 use Rattle.linear.proofs.Bridge.{Entered, refuses, starts, turns, after-sound}
 use Rattle.linear.proofs.Invariant.{In, Inv, key-range}

@@ -1,11 +1,11 @@
 -- One table for the starred cases of document 01, "Small boards", which are of layout 1, and some of layout 2 (document 02, A2): a row
 -- lends words, makes some calls, asks one thing more, and says what is replied.
 use Prim.Native.Nat.{ℕ, zero, suc}
-use mathlib.Core.List.{List, [], _∷_}
+use mathlib.Core.List.{List, [], _∷_, _++_}
 use lib.ListN.{replicate}
 use Rattle.worker.specs.Node.{head}
 use Rattle.worker.specs.Worker.{add, remove, contains}
-use Rattle.worker.specs.Refusals.{shortArena, busy, badCall, badCounts}
+use Rattle.worker.specs.Refusals.{shortArena, busy, badCall, noRoom, badCounts}
 use Rattle.worker.specs.Report.{reportValues}
 use Rattle.worker.specs.declared.report.Answer.the-variants.{Yes, No}
 use Rattle.worker.specs.declared.report.Report.{Report}
@@ -14,14 +14,16 @@ use Rattle.words.specs.Layout.{word, layout1, layout2}
 use Rattle.words.specs.Replies.{Reply, refused, accepted}
 use Rattle.arena.specs.Init.{initAnswer, initArena}
 use Rattle.arena.specs.Start.{startAnswer, startArena}
+use Rattle.arena.specs.Snapshot.{snapshotAnswer}
 use Rattle.lazy.specs.Turn.{turnAnswer, turnArena}
 
--- what is asked of an arena: init with layout, W and N, a start with worker, operation, key and length, so many turns of a worker, or
--- the word at a place
+-- what is asked of an arena: init with layout, W and N, a start with worker, operation, key and length, so many turns of a worker, a
+-- snapshot with so much room, or the word at a place
 pub data Ask : Type 0 where
   init : ℕ → ℕ → ℕ → Ask
   start : ℕ → ℕ → ℕ → ℕ → Ask
   turns : ℕ → ℕ → Ask
+  list : ℕ → Ask
   look : ℕ → Ask
 
 abbrev pub afterTurns : List ℕ → ℕ → ℕ → List ℕ
@@ -38,6 +40,7 @@ abbrev pub replyTo : List ℕ → Ask → Reply
 replyTo arena (init layout workers nodes) = initAnswer arena layout workers nodes
 replyTo arena (start worker operation key length) = startAnswer arena worker operation key length
 replyTo arena (turns worker count) = lastReply arena worker count
+replyTo arena (list room) = snapshotAnswer arena room
 replyTo arena (look at) = accepted (word arena at ∷ [])
 
 -- and the arena afterwards
@@ -45,6 +48,7 @@ abbrev pub arenaAfter : List ℕ → Ask → List ℕ
 arenaAfter arena (init layout workers nodes) = initArena arena layout workers nodes
 arenaAfter arena (start worker operation key length) = startArena arena worker operation key length
 arenaAfter arena (turns worker count) = afterTurns arena worker count
+arenaAfter arena (list room) = arena
 arenaAfter arena (look at) = arena
 
 abbrev pub arenaAfterAll : List ℕ → List Ask → List ℕ
@@ -75,6 +79,10 @@ reportReply report = accepted (reportValues report)
 -- only 5 stored, and worker 0 at the start of a call
 abbrev pub stored : ℕ → List Ask
 stored operation = small ∷ start 0 add 5 0 ∷ turns 0 14 ∷ start 0 operation 5 0 ∷ []
+
+-- and after so many turns of its remove
+abbrev pub removing : ℕ → List Ask
+removing count = stored remove ++ turns 0 count ∷ []
 
 -- two adds on an empty set: worker 0 has taken pred, and worker 1 wants it
 abbrev pub twoAdds : List Ask
@@ -125,4 +133,10 @@ cases =
     -- alone on an empty set: add 5 with length 3 takes 14 turns too, and the fifth word of node 2 is then the length
     ∷ row 31 (small2 ∷ start 0 add 5 3 ∷ []) (turns 0 14) (reportReply (Finished Yes))
     ∷ row 31 (small2 ∷ start 0 add 5 3 ∷ turns 0 14 ∷ []) (look 30) (accepted (3 ∷ []))
+    -- with only 5 stored, remove 5 marks its node in its tenth turn and unlinks it in its twelfth: from the tenth on no key is listed, and no
+    -- room is needed (document 02, A3)
+    ∷ row 28 (removing 9) (list 1) (accepted (1 ∷ []))
+    ∷ row 28 (removing 9) (list 0) (refused noRoom)
+    ∷ row 28 (removing 10) (list 0) (accepted (0 ∷ []))
+    ∷ row 28 (removing 12) (list 0) (accepted (0 ∷ []))
     ∷ []
