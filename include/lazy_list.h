@@ -79,8 +79,10 @@ uint64_t lazy_list_start(uint16_t *arena, size_t arena_length, uint16_t worker, 
  * another, busy one, which must move on first. */
 uint64_t lazy_list_turn(uint16_t *arena, size_t arena_length, uint16_t worker);
 
-/* Writes the keys on the chain, in rising order, and counts them; words past them stay. A key whose node is marked but not unlinked yet is
- * among them. Refused with 1, 2, 7, 8. */
+/* Writes the keys of the set, in rising order, and counts them; words past them stay. A node that is marked but not unlinked yet is passed
+ * over, and checked like the others. Refused with 1, 2, 7, 8. On an arena that init has laid and only start and turn have written, room for
+ * N less 2 keys is enough, and a contains that an idle worker starts then, and that alone gets turns until it finishes, answers yes exactly
+ * if its key is listed. */
 uint64_t lazy_list_snapshot(const uint16_t *arena, size_t arena_length, uint16_t *keys, size_t keys_length);
 
 /* Runs a schedule on an arena of layout 2 that it lays itself. An entry is four words: worker, act (0 turn, or an operation to start), key
