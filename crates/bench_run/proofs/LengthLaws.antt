@@ -20,9 +20,9 @@ use Rattle.arena.specs.Init.{freshWords}
 use Rattle.arena.specs.Snapshot.{keysOf}
 use Rattle.arena.proofs.ShortChains.{keys-few}
 use Rattle.arena.specs.Lists.{filter}
+use Rattle.arena.proofs.ListLaws.{filter-shorter}
 use Rattle.linear.specs.Entries.{Entry, isTurn}
 use Rattle.linear.specs.History.{totals}
-use Rattle.arena.proofs.ListLaws.{filter-shorter}
 use Rattle.linear.proofs.Timeline.{freshSchedule, Schedule, last, arena, sound}
 use Rattle.schedule.specs.declared.Call.{Call}
 use Rattle.schedule.specs.declared.Wait.{Wait}

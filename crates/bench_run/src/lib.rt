@@ -1,5 +1,5 @@
 // What the bench program prints for an input: the input is parsed, its schedule is run, and the history is printed.
-ghost use mathlib.Core.List.{[], map, flatten};
+ghost use mathlib.Core.List.{map, flatten};
 ghost use Prim.Native.Nat.{_≤_};
 ghost use lib.ListN.{take, replicate};
 ghost use Rattle.arena.specs.Snapshot.{keysOf, Listed};

@@ -3,12 +3,12 @@ use Prim.Native.Nat.{ℕ, zero, suc, _+_, _≤_, _<_}
 use mathlib.Core.Path.{_≡_, refl, sym, ap, subst, _∙_}
 use mathlib.Core.Logic.{inl, inr, _≢_}
 use mathlib.Core.List.{List}
-use mathlib.Core.Bool.{Bool, true, false, cond}
+use mathlib.Core.Bool.{Bool, true, false}
 use native.Mathlib.Omega.{arith}
 use lib.Dec.{ltb, eqb}
 use borrow.Author.Tests.{eq-eqb, eqb-true, eqb-false, ltb-true, ltb-false}
 use Rattle.worker.specs.Worker.{idleWorker}
-use Rattle.worker.specs.Report.{answerNumber, numberedAnswer}
+use Rattle.worker.specs.Report.{numberedAnswer}
 use Rattle.worker.specs.Stages.{withStage, withCurr, withAnswer, reports}
 use Rattle.worker.specs.declared.Worker.{Worker}
 use Rattle.worker.specs.declared.report.Answer.{Answer}

@@ -10,8 +10,8 @@ use native.Mathlib.Omega.{arith}
 use Rattle.worker.specs.Node.{head, tail}
 use Rattle.words.specs.Layout.{nodesOf}
 use Rattle.arena.specs.Sets.{Label, member, ChainWhole, setOf, OnChain, top, link, InSet}
-use Rattle.linear.proofs.LabelLaws.{find, labelled, member-find, present-find, from-find, in-find}
 use Rattle.arena.proofs.SetLaws.{chain-whole, set-rises, set-members}
+use Rattle.linear.proofs.LabelLaws.{find, labelled, member-find, present-find, from-find, in-find}
 use Rattle.linear.proofs.Reach.{Reach, here, one-more, along}
 use Rattle.linear.proofs.State.{decode}
 use Rattle.linear.proofs.Bridge.{Sound}

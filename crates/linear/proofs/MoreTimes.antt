@@ -13,8 +13,8 @@ use lib.Seq.{getD-append-seam}
 use lib.Dec.{eqb}
 use borrow.Author.Tests.{ne-eqb}
 use Rattle.arena.specs.Lists.{filter, Pairs, _ahead_}
-use Rattle.linear.specs.Times.{timesFrom, first, latest}
 use Rattle.arena.proofs.ListLaws.{each-in}
+use Rattle.linear.specs.Times.{timesFrom, first, latest}
 
 -- the first time at which a test holds, with one time more
 module _ (test : ℕ → Bool) where

@@ -11,10 +11,10 @@ use Rattle.worker.specs.Worker.{contains}
 use Rattle.worker.specs.declared.Worker.{Worker}
 use Rattle.worker.specs.declared.report.Step.{Step}
 use Rattle.arena.specs.Sets.{setOf}
+use Rattle.arena.proofs.ListLaws.{in-filter, in-map}
 use Rattle.linear.specs.Entries.{turnReported, isStarted}
 use Rattle.linear.specs.History.{Call, isDecision, arenaAt, calls}
 use Rattle.linear.specs.Order.{hasPoint, rank, inOrder}
-use Rattle.arena.proofs.ListLaws.{in-filter, in-map}
 use Rattle.linear.proofs.TimeLaws.{in-times}
 use Rattle.linear.proofs.OrderLaws.{in-sorted}
 use Rattle.linear.proofs.Simulation.{does-early}

@@ -10,10 +10,10 @@ use native.Mathlib.Omega.{arith}
 use lib.Dec.{leb, ltb, eqb}
 use borrow.Author.Tests.{ltb-true, ltb-false, leb-true, leb-false, eqb-true, eqb-false}
 use Rattle.arena.specs.Lists.{filter, Each, none, _and_, Pairs, alone, _ahead_}
+use Rattle.arena.proofs.ListLaws.{each-in, each-of, pairs-weaken}
 use Rattle.linear.specs.Entries.{Entry}
 use Rattle.linear.specs.History.{Call, calls}
 use Rattle.linear.specs.Order.{hasPoint, rank, Before, goesBefore, inserted, sorted, inOrder, Ordered}
-use Rattle.arena.proofs.ListLaws.{each-in, each-of, pairs-weaken}
 
 -- what is before a call is before each later one
 before-trans : (a b c : Call) → Before a b → Before b c → Before a c

@@ -13,10 +13,10 @@ use Rattle.worker.specs.Report.{answerNumber}
 use Rattle.worker.specs.declared.report.Answer.the-variants.{Yes, No, Full}
 use Rattle.arena.specs.Lists.{Each, none as nothing, _and_, Pairs, alone, _ahead_}
 use Rattle.arena.specs.Sets.{isNone, Label, Rising, member}
+use Rattle.arena.proofs.ListLaws.{each-in, each-of}
 use Rattle.linear.specs.History.{Call, isLate}
 use Rattle.linear.specs.Order.{rank, Before}
 use Rattle.linear.specs.Sequential.{responseTo, fed, answersTo, labelsAfter}
-use Rattle.arena.proofs.ListLaws.{each-in, each-of}
 use Rattle.linear.proofs.LabelLaws.{find, labelled, member-find, including-find, excluding-find, including-rises, excluding-rises}
 use Rattle.linear.proofs.SequentialLaws.{add-absent, add-full, add-present, remove-present, remove-absent, contains-present, contains-absent}
 

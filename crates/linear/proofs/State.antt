@@ -14,8 +14,8 @@ use Rattle.worker.specs.declared.report.Effect.{Effect}
 use Rattle.worker.specs.declared.report.Effect.the-variants.{Nothing, SetOwner, SetNext, SetMark, Fill}
 use Rattle.words.specs.Layout.{word, layoutOf, workersOf, nodeWidth, nodeKey, nodeNext, nodeMark, nodeOwner, hasLength}
 use Rattle.words.specs.Records.{workerAt}
-use Rattle.lazy.specs.Turn.{seenOf}
 use Rattle.arena.specs.Sets.{nodeIn}
+use Rattle.lazy.specs.Turn.{seenOf}
 
 pub record State : Type 0 where
   pub key : ℕ → ℕ

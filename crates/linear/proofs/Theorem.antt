@@ -11,16 +11,16 @@ use Rattle.worker.specs.declared.report.Report.{Report}
 use Rattle.words.specs.Layout.{goodCounts}
 use Rattle.arena.specs.Init.{freshWords}
 use Rattle.arena.specs.Lists.{filter, Pairs}
+use Rattle.arena.proofs.ListLaws.{from-filter, from-map, each-of, pairs-filter, pairs-weaken}
+use Rattle.arena.proofs.SetLaws.{set-rises, set-members}
 use Rattle.linear.specs.Entries.{Entry, turnReported, entryRefused}
 use Rattle.linear.specs.History.{Call, entryAt, arenaAt, eventAt, calls}
 use Rattle.linear.specs.Order.{hasPoint, rank, inOrder, Before}
 use Rattle.linear.specs.Linearizable.{Linearizable, Unbroken, ExactSets, Resting, Waiting}
 use Rattle.linear.specs.Snapshots.{TrueSnapshots}
-use Rattle.arena.proofs.ListLaws.{from-filter, from-map, each-of, pairs-filter, pairs-weaken}
 use Rattle.linear.proofs.TimeLaws.{from-times, pairs-mapped}
 use Rattle.linear.proofs.OrderLaws.{from-sorted, sorted-pairs}
 use Rattle.linear.proofs.LabelLaws.{rising-same}
-use Rattle.arena.proofs.SetLaws.{set-rises, set-members}
 use Rattle.linear.proofs.Simulation.{Placed, Apart, placed-answer, simulated}
 use Rattle.linear.proofs.Reach.{Reach, here, on, stuck}
 use Rattle.linear.proofs.Bridge.{Entered, refuses, starts, turns}

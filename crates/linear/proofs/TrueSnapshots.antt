@@ -27,7 +27,7 @@ use Rattle.linear.proofs.Invariant.{In, Inv, key-range}
 use Rattle.linear.proofs.Preserved.{start-inv}
 use Rattle.linear.proofs.Members.{whole, set-in}
 use Rattle.linear.proofs.LookUps.{Looks, tells-22}
-use Rattle.linear.proofs.Timeline.{Schedule, arena, state, sound, always, entered-at, own-worker}
+use Rattle.linear.proofs.Timeline.{Schedule, arena, state, sound, always, entered-at}
 
 module _ (r : Schedule) (time : ℕ) where
   -- a key is listed where it is in the set

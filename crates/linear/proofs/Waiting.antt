@@ -17,10 +17,10 @@ use Rattle.worker.specs.declared.report.Effect.the-variants.{Nothing}
 use Rattle.words.specs.Layout.{nodeOwner}
 use Rattle.words.specs.Records.{workerAt}
 use Rattle.arena.specs.Lists.{filter}
+use Rattle.arena.proofs.ListLaws.{from-map, from-filter}
 use Rattle.linear.specs.Entries.{Entry, Event, callStarted, turnReported, entryRefused, isWaits, isFinished, eventValues}
 use Rattle.linear.specs.History.{arenaAt, startsCallOf, callNumber, finishOf, callAt, calls, times, waitsAt, waitAt, waits, totals}
 use Rattle.linear.specs.Linearizable.{Blocked, Waiting}
-use Rattle.arena.proofs.ListLaws.{from-map, from-filter}
 use Rattle.linear.proofs.TimeLaws.{from-times, first-past}
 use Rattle.linear.proofs.MoreTimes.{passing, passing-place, latest-is}
 use Rattle.linear.proofs.State.{State, wordAfter, stepped}

@@ -10,8 +10,8 @@ use Rattle.worker.specs.Report.{answerNumber}
 use Rattle.worker.specs.declared.report.Answer.the-variants.{No, Full}
 use Rattle.words.specs.Records.{workerAt}
 use Rattle.arena.specs.Lists.{filter}
-use Rattle.linear.specs.Times.{timesFrom, first, latest}
 use Rattle.arena.specs.Sets.{member, setOf}
+use Rattle.linear.specs.Times.{timesFrom, first, latest}
 use Rattle.linear.specs.Entries.{Entry, Event, eventOf, after, isStarted, isReported, isRefused, isWaits, isFinished, eventValues}
 
 -- a call record: worker, operation, key, start, point, finish, answer; 0 stands for a point or finish not reached, and for the answer

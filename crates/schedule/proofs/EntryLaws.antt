@@ -13,9 +13,9 @@ use borrow.Author.Tests.{lt-leb, ne-eqb}
 use Rattle.worker.specs.Worker.{within}
 use Rattle.worker.specs.Refusals.{Refusal, judged}
 use Rattle.arena.specs.Start.{startRefusals}
-use Rattle.linear.specs.Entries.{Entry, callStarted, entryRefused, isTurn, isWaits, eventOf}
 use Rattle.arena.specs.Lists.{filter}
 use Rattle.arena.proofs.ListLaws.{filter-shorter}
+use Rattle.linear.specs.Entries.{Entry, callStarted, entryRefused, isTurn, isWaits, eventOf}
 use Rattle.schedule.specs.Run.{entryWidth, entryOf, entriesOf, countIn}
 
 -- the four words from a place on, as an entry

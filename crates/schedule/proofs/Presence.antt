@@ -16,8 +16,8 @@ use Rattle.words.specs.Records.{nodeAt}
 use Rattle.arena.specs.Lists.{filter}
 use Rattle.arena.specs.Sets.{Label, member, isUnmarked, chainLabels, nodeIn, labelIn, ChainWhole, setOf}
 use Rattle.arena.proofs.ListLaws.{from-filter, from-map}
-use Rattle.linear.proofs.LabelLaws.{present-find, from-find}
 use Rattle.arena.proofs.SetLaws.{keyOf, nextOf, chainOf, Walked, ended, passed, walked-above, whole-walked}
+use Rattle.linear.proofs.LabelLaws.{present-find, from-find}
 
 or-false : (a : Bool) → (a || false) ≡ a
 or-false true = refl

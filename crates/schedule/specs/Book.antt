@@ -10,9 +10,9 @@ use Rattle.worker.specs.Report.{answerNumber}
 use Rattle.worker.specs.declared.Worker.{Worker}
 use Rattle.worker.specs.declared.report.Answer.the-variants.{Yes}
 use Rattle.worker.specs.declared.report.Report.the-variants as report
-use Rattle.words.specs.Layout.{layoutOf, workersOf, nodesOf, nodeWidth, nodePart}
+use Rattle.words.specs.Layout.{workersOf}
 use Rattle.words.specs.Records.{workerAt}
-use Rattle.arena.specs.Sets.{chain, isNone, member, setOf}
+use Rattle.arena.specs.Sets.{member, isNone, walkOf, setOf}
 use Rattle.linear.specs.Entries.{Entry, Event, callStarted, turnReported, entryRefused, eventOf, after}
 use Rattle.linear.specs.History.{isDecision, isLate}
 use Rattle.schedule.specs.declared.Call.{Call}
@@ -111,7 +111,7 @@ withStart book worker absent =
 
 -- the chain does not come to its end
 abbrev pub isBroken : List ℕ → Bool
-isBroken arena = isNone (chain (nodeWidth (layoutOf arena)) (nodePart arena) (nodesOf arena))
+isBroken arena = isNone (walkOf arena)
 
 -- a contains whose key is absent at its start has missed it at once
 abbrev pub absentFrom : List ℕ → ℕ → ℕ → ℕ → ℕ
