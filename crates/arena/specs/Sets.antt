@@ -27,6 +27,7 @@ unfoldable pub member : ℕ → List Label → Bool
 member key [] = false
 member key (label ∷ labels) = eqb key (label .key) || member key labels
 
+-- the keys of labels
 abbrev pub keysIn : List Label → List ℕ
 keysIn = map (λ (label : Label). label .key)
 
