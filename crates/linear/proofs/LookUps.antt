@@ -7,13 +7,11 @@ use mathlib.Core.Bool.{Bool, true, false}
 use native.Mathlib.Omega.{arith}
 use lib.Dec.{ltb, eqb}
 use borrow.Author.Tests.{eq-eqb, eqb-true, eqb-false, ltb-true, ltb-false}
-use Rattle.worker.specs.Worker.{idleWorker}
 use Rattle.worker.specs.Report.{numberedAnswer}
 use Rattle.worker.specs.Stages.{withStage, withCurr, withAnswer, reports}
 use Rattle.worker.specs.declared.Worker.{Worker}
 use Rattle.worker.specs.declared.report.Answer.{Answer}
 use Rattle.worker.specs.declared.report.Answer.the-variants.{Yes, No}
-use Rattle.worker.specs.declared.report.Report.{Report}
 use Rattle.worker.specs.declared.report.Report.the-variants.{Moved, Finished}
 use Rattle.worker.specs.declared.report.Step.{Step}
 use Rattle.worker.proofs.TurnLaws.{step-row}
@@ -58,24 +56,28 @@ module _ (layout workers nodes : ℕ) (s : State) (inv : Inv nodes s) (w key : �
   tells-later : {arena : List ℕ} → Tells (next arena) → Tells arena
   tells-later told = (λ i. later (told .0 i), λ out. later (told .1 out))
 
-  -- a turn that writes its record alone
-  module _ {arena : List ℕ} {stage curr : ℕ} (looks : Looks arena stage curr) (new : Worker) (told : Report)
-      (is : turnStep workers nodes (decode arena) w ≡ reports new told) where
-    enters : (eventOf arena (ownTurn w) ≡ turnReported told) × (decode (next arena) ≡ stepped (decode arena) w (reports new told))
-    enters =
-        let turn = turn-enters (looks .sound) (ownTurn w) refl known (passes (looks .holds) workers w) in
-        (turn .0 ∙ ap (λ (step : Step). turnReported (step .report)) is, turn .1 ∙ ap (stepped (decode arena) w) is)
+  -- its turn
+  turned : {arena : List ℕ} {stage curr : ℕ} → Looks arena stage curr →
+      (eventOf arena (ownTurn w) ≡ turnReported (turnStep workers nodes (decode arena) w .report))
+      × (decode (next arena) ≡ stepped (decode arena) w (turnStep workers nodes (decode arena) w))
+  turned looks = turn-enters (looks .sound) (ownTurn w) refl known (passes (looks .holds) workers w)
+
+  -- one that moves and writes its record alone
+  module _ {arena : List ℕ} {stage curr : ℕ} (looks : Looks arena stage curr) (new : Worker)
+      (is : turnStep workers nodes (decode arena) w ≡ reports new (Moved (new .stage))) where
+    moved : decode (next arena) ≡ stepped (decode arena) w (reports new (Moved (new .stage)))
+    moved = turned looks .1 ∙ ap (stepped (decode arena) w) is
 
     new-is : me (next arena) ≡ new
-    new-is = ap (λ (s : State). s .worker w) (enters .1) ∙ rw (eq-eqb w w refl)
+    new-is = ap (λ (s : State). s .worker w) moved ∙ rw (eq-eqb w w refl)
 
-    goes : Row nodes (decode arena) w (reports new told) → new .key ≡ me arena .key → {to : ℕ} → new .curr ≡ to →
+    goes : Row nodes (decode arena) w (reports new (Moved (new .stage))) → new .key ≡ me arena .key → {to : ℕ} → new .curr ≡ to →
         Looks (next arena) (new .stage) to
     goes row stays there =
         record {
           sound = after-sound (looks .sound) (ownTurn w);
-          holds = subst (Inv nodes) (sym (enters .1)) (row-inv (looks .holds) w row);
-          same = ap shapeOf (enters .1) ∙ looks .same;
+          holds = subst (Inv nodes) (sym moved) (row-inv (looks .holds) w row);
+          same = ap shapeOf moved ∙ looks .same;
           at = ap (λ (me : Worker). me .stage) new-is;
           own-key = ap (λ (me : Worker). me .key) new-is ∙ stays ∙ looks .own-key;
           on = ap (λ (me : Worker). me .curr) new-is ∙ there;
@@ -89,13 +91,13 @@ module _ (layout workers nodes : ℕ) (s : State) (inv : Inv nodes s) (w key : �
   unfolding afterTurns
   ends {arena} looks answer is row =
       let new = withStage (withAnswer (me arena) answer) 21 in
-      let last = goes looks new (Moved 21) is row refl refl in
-      let told = Finished (numberedAnswer (me (next arena) .answer)) in
+      let last = goes looks new is row refl refl in
       later (record {
         turns = 0;
         finished =
-            enters last idleWorker told (step-row (me (next arena)) _ _ (last .at)) .0
-            ∙ ap (λ (me : Worker). turnReported (Finished (numberedAnswer (me .answer)))) (new-is looks new (Moved 21) is);
+            turned last .0
+            ∙ ap (λ (step : Step). turnReported (step .report)) (step-row (me (next arena)) _ _ (last .at))
+            ∙ ap (λ (me : Worker). turnReported (Finished (numberedAnswer (me .answer)))) (new-is looks new is);
       })
 
   -- what it reads of its node
@@ -145,13 +147,13 @@ module _ (layout workers nodes : ℕ) (s : State) (inv : Inv nodes s) (w key : �
             let there = next arena in
             let under : decode arena .key (me arena .curr) < me arena .key = ltb-true _ _ b in
             let low : s .key curr < key = omega (arith, key-is looks, looks .own-key) in
-            let past = goes looks (withStage (me arena) 24) (Moved 24) (step-row (me arena) _ _ (looks .at) ∙ rw b)
+            let past = goes looks (withStage (me arena) 24) (step-row (me arena) _ _ (looks .at) ∙ rw b)
             (row-23 (looks .holds) w true equal b e (looks .at)) refl (looks .on) in
             tells-later (tells-later (onward low
-            (goes past (withStage (withCurr (me there) (decode there .next (me there .curr))) 23) (Moved 23)
+            (goes past (withStage (withCurr (me there) (decode there .next (me there .curr))) 23)
             (step-row (me there) _ _ (past .at)) (row-24 (past .holds) w (past .at)) refl (next-is past))))
         go false true b e =
-            let found = goes looks (withStage (me arena) 25) (Moved 25) (step-row (me arena) _ _ (looks .at) ∙ rw (b, e))
+            let found = goes looks (withStage (me arena) 25) (step-row (me arena) _ _ (looks .at) ∙ rw (b, e))
             (row-23 (looks .holds) w false true b e (looks .at)) refl (looks .on) in
             tells-later (tells-25 found (sym (key-is looks) ∙ eqb-true _ _ e ∙ looks .own-key))
         go false false b e =
@@ -176,5 +178,5 @@ module _ (layout workers nodes : ℕ) (s : State) (inv : Inv nodes s) (w key : �
   pub tells-22 : {arena : List ℕ} {curr : ℕ} → Looks arena 22 curr → Tells arena
   tells-22 {arena} looks =
       tells-later (goes-along key (here refl) (λ i. record { inside = i; run = i .chain })
-      (goes looks (withStage (withCurr (me arena) 0) 23) (Moved 23) (step-row (me arena) _ _ (looks .at))
+      (goes looks (withStage (withCurr (me arena) 0) 23) (step-row (me arena) _ _ (looks .at))
       (row-22 (looks .holds) w (looks .at)) refl refl) (omega arith))
