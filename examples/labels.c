@@ -55,6 +55,17 @@ static void print_labels(void) {
     printf("\n");
 }
 
+/* Which node the next add would take, and what it costs to find out: one next word for each node that is not free. */
+static void print_free(void) {
+    uint64_t reply = lazy_list_find_free(arena, arena_length);
+
+    if (LAZY_LIST_VALUE(reply) == LAZY_LIST_NO_NODE)
+        printf("no node is free");
+    else
+        printf("node %u is free", (unsigned)LAZY_LIST_VALUE(reply));
+    printf(": %u next words read\n", (unsigned)LAZY_LIST_SECOND(reply));
+}
+
 /* Worker 0 stops with Head in its hands: the turn of worker 1 that wants Head waits, and says so. */
 static void meet_at_head(void) {
     uint64_t reply;
@@ -143,10 +154,12 @@ int main(void) {
     call(0, LAZY_LIST_ADD, 5, 3);
     call(0, LAZY_LIST_CONTAINS, 5, 0);
     print_labels();
+    print_free();
     call(0, LAZY_LIST_ADD, 5, 4); /* it is there already, and keeps its length */
     print_labels();
     call(0, LAZY_LIST_REMOVE, 5, 0);
     print_labels();
+    print_free();
     call(0, LAZY_LIST_CONTAINS, 5, 0);
     call(0, LAZY_LIST_ADD, 0, 3);
     call(0, LAZY_LIST_ADD, 65530, 6); /* key and length are at most 65,535 together */

@@ -7,7 +7,7 @@
  *   - a pointer leads to as many words as the length beside it says, `totals` to four; also with length 0 it is not null;
  *   - words lent to one call as different arguments do not overlap;
  *   - nobody else reads or writes the words during the call: a function is one atomic step only where calls on one arena take turns.
- * The library is compiled for x86-64 Linux: some 9 kB of code that keeps nothing between calls, allocates nothing, takes less than 4 kB of
+ * The library is compiled for x86-64 Linux: some 10 kB of code that keeps nothing between calls, allocates nothing, takes less than 4 kB of
  * stack, and of the C library wants memset and memcpy alone.
  *
  * The arena for W workers (1 to 8) and N nodes (3 to 1,024), its words counted from 0, in one of two layouts:
@@ -32,8 +32,9 @@
 extern "C" {
 #endif
 
-/* Words of an arena of layout 1 or 2. */
+/* Words of an arena of layout 1 or 2; and no node. */
 #define LAZY_LIST_WORDS(layout, workers, nodes) (8 + 8 * (size_t)(workers) + ((layout) == 1 ? 4 : 5) * (size_t)(nodes))
+#define LAZY_LIST_NO_NODE 65535u
 
 /* Refusals: the first that applies, in the order given at each function. */
 enum lazy_list_refusal {
@@ -58,7 +59,8 @@ enum lazy_list_report { LAZY_LIST_IDLE = 0, LAZY_LIST_MOVED = 1, LAZY_LIST_WAITS
 enum lazy_list_answer { LAZY_LIST_YES = 1, LAZY_LIST_NO = 2, LAZY_LIST_FULL = 3 };
 
 /* Read a reply: its refusal, or 0; of an accepted turn the report. The first value is the stage moved to, the answer finished with, the
- * node waited for, or the count of a snapshot's keys; the second is the worker that a turn waits for. What a reply does not have is 0. */
+ * node waited for, the count of a snapshot's keys, or the node that find_free found; the second is the worker that a turn waits for, or the
+ * next words that find_free read. What a reply does not have is 0. */
 #define LAZY_LIST_REFUSAL(reply) ((reply) % 256u)
 #define LAZY_LIST_REPORT(reply) ((reply) / 256u % 256u)
 #define LAZY_LIST_VALUE(reply) ((reply) / 65536u % 65536u)
@@ -78,6 +80,11 @@ uint64_t lazy_list_start(uint16_t *arena, size_t arena_length, uint16_t worker, 
  * On an arena that init has laid and only start and turn have written it is never refused with 6 or 7, and the worker in the way is
  * another, busy one, which must move on first. */
 uint64_t lazy_list_turn(uint16_t *arena, size_t arena_length, uint16_t worker);
+
+/* The lowest-numbered free node, or LAZY_LIST_NO_NODE; beside it how many next words the search for it read, on every arena exactly the number
+ * of nodes that are not free. A node is free if no run of next links leads to it from node 0, node 1, or the pred, curr or spare of any
+ * worker. The turn that takes a node makes the same search. Nothing is written. Refused with 1, 2. */
+uint64_t lazy_list_find_free(const uint16_t *arena, size_t arena_length);
 
 /* Writes the keys of the set, in rising order, and counts them; words past them stay. A node that is marked but not unlinked yet is passed
  * over, and checked like the others. Refused with 1, 2, 7, 8. On an arena that init has laid and only start and turn have written, room for

@@ -23,6 +23,7 @@ use Rattle.words.specs.Layout.{layout2}
 use Rattle.arena.specs.Init.{freshWords, initRefusals, initAnswer}
 use Rattle.arena.specs.Start.{callRefusals, startRefusals, startAnswer}
 use Rattle.arena.specs.Snapshot.{chainBroken, chainTooLong, chainRefusals, snapshotRefusals, snapshotAnswer}
+use Rattle.lazy.specs.FindFree.{findFreeAnswer}
 use Rattle.lazy.specs.Turn.{outcomeReply, outcomeOf, seenBy, workerRefusals, turnOn, turnAnswer}
 use Rattle.linear.specs.Linearizable.{Linearizable}
 use Rattle.schedule.specs.Run.{entriesOf, runRefusals, runAnswer, summaryReply, DoneLinearizable}
@@ -125,6 +126,10 @@ module _ (arena : List ℕ) where
   pub snapshot-readable : (room : ℕ) → Readable (unreported (snapshotAnswer arena room))
   unfolding snapshotAnswer snapshotRefusals chainRefusals chainBroken chainTooLong headerRefusals
   snapshot-readable room = unreported-readable (snapshotAnswer arena room) (replied-readable (snapshotRefusals arena room) _ refl)
+
+  pub find-free-readable : Readable (unreported (findFreeAnswer arena))
+  unfolding findFreeAnswer headerRefusals
+  find-free-readable = unreported-readable (findFreeAnswer arena) (replied-readable (headerRefusals arena) _ refl)
 
   pub run-readable : (workers nodes : ℕ) (schedule : List ℕ) (callRoom waitRoom : ℕ) →
       Readable (runAnswer arena workers nodes schedule callRoom waitRoom)

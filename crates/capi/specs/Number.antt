@@ -11,7 +11,7 @@ abbrev pub replyNumber : Reply → ℕ
 replyNumber (refused number) = number
 replyNumber (accepted values) = 256 * getD values 0 0 + 65536 * getD values 1 0 + 4294967296 * getD values 2 0
 
--- only a turn has a report: a snapshot's count is the first value
+-- only a turn has a report: a snapshot's count is the first value, and so is the node that find_free found
 abbrev pub unreported : Reply → Reply
 unreported (refused number) = refused number
 unreported (accepted values) = accepted (0 ∷ values)

@@ -6,6 +6,7 @@ ghost use Rattle.words.specs.Layout.{layout2};
 ghost use Rattle.arena.specs.Init.{freshWords, initAnswer, initArena};
 ghost use Rattle.arena.specs.Start.{startAnswer, startArena};
 ghost use Rattle.arena.specs.Snapshot.{snapshotAnswer, snapshotWords};
+ghost use Rattle.lazy.specs.FindFree.{findFreeAnswer};
 ghost use Rattle.lazy.specs.Turn.{turnAnswer, turnArena};
 ghost use Rattle.linear.specs.Linearizable.{Linearizable};
 ghost use Rattle.schedule.specs.Run.{entriesOf, callWidth, waitWidth, summaryReply, runAnswer, runArena, runCallWords, runWaitWords};
@@ -46,6 +47,15 @@ pub extern "C" fn lazy_list_turn(arena: &mut [u16], worker: u16) -> u64
     ensures words { λ _. ⌜ now (arena .exit) ≡ turnArena (now (arena .entry)) worker ⌝ }
 {
     number::of_outcome(lazy::turn(arena, worker))
+}
+
+// The lowest-numbered free node, and how many next words the search for it read.
+#[no_mangle]
+pub extern "C" fn lazy_list_find_free(arena: &[u16]) -> u64
+    ensures number { λ r. ⌜ r ≡ replyNumber (unreported (findFreeAnswer (now (arena .entry)))) ⌝ }
+    ensures read { λ r. ⌜ Reads r (unreported (findFreeAnswer (now (arena .entry)))) ⌝ }
+{
+    number::of_search(lazy::find_free(arena))
 }
 
 // The keys on the chain, in chain order.

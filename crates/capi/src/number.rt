@@ -3,14 +3,18 @@ ghost use mathlib.Core.Path.{_≡_};
 ghost use Rattle.worker.specs.Report.{answerNumber};
 ghost use Rattle.words.specs.Replies.{verdictReply};
 ghost use Rattle.arena.specs.Snapshot.{listingReply};
+ghost use Rattle.lazy.specs.FindFree.{freeNumber, searchReply};
 ghost use Rattle.lazy.specs.Turn.{outcomeReply};
 ghost use Rattle.schedule.specs.Run.{summaryReply};
 ghost use Rattle.capi.specs.Number.{replyNumber, unreported, Fitting, bare};
 use arena::Listing;
 use lazy::Outcome;
+use lazy::Search;
 use schedule::Summary;
 use words::Verdict;
 use worker::Answer;
+use worker::Free;
+use worker::Node;
 use worker::Report;
 
 // Where a report and two values stand, above the byte of the refusal.
@@ -36,6 +40,29 @@ pub(crate) fn of_listing(listing: Listing) -> u64
     match listing {
         Listing::Keys(count) => FIRST * (count as u64),
         Listing::Refused(number) => number as u64,
+    }
+}
+
+pub(crate) fn of_search(search: Search) -> u64
+    ensures number { λ r. ⌜ r ≡ replyNumber (unreported (searchReply search)) ⌝ }
+    ensures fitting { λ _. ⌜ Fitting (unreported (searchReply search)) ⌝ }
+{
+    match search {
+        Search::Done(found) => {
+            let free = found.free;
+            let reads = found.reads;
+            FIRST * (of_free(free) as u64) + SECOND * (reads as u64)
+        }
+        Search::Refused(number) => number as u64,
+    }
+}
+
+fn of_free(free: Free) -> u16
+    ensures { λ r. ⌜ r ≡ freeNumber free ⌝ }
+{
+    match free {
+        Free::Node(node) => node,
+        Free::None => Node::NONE,
     }
 }
 

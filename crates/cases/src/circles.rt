@@ -1,5 +1,6 @@
 // Links that lead in circles, out of range, or on from Tail.
 use crate::print::end_line;
+use crate::print::show_search;
 use crate::print::show_words;
 use crate::turns::call;
 use crate::turns::show_outcome;
@@ -49,21 +50,25 @@ fn hunt(text: &[u8], at: usize, word: u16, also_at: usize, also: u16) {
     arena[12] = 2;
     put(&mut arena, at, word);
     put(&mut arena, also_at, also);
+    let search = lazy::find_free(&arena);
     io::write_all(1, text);
     show_outcome(lazy::turn(&mut arena, 0));
     end_line();
     show_words(b"  worker", &arena[8..16]);
+    show_search(b"  find_free", search);
 }
 
-// What stands in the way of a turn on an arena: too few words, an odd header, no such worker.
+// What stands in the way of a turn on an arena, too few words, an odd header, no such worker; and of the search alone.
 pub fn arenas() {
     let mut arena = [0u16; 28];
     arena::init(&mut arena, LAYOUT_1, 1, 3);
     refused(b"turn of worker 1:", &mut arena, 28, 1);
     refused(b"turn, 27 words:", &mut arena, 27, 0);
     refused(b"turn, 7 words, worker 9:", &mut arena, 7, 9);
+    show_search(b"find_free, 27 words", lazy::find_free(&arena[0..27]));
     arena[6] = 1;
     refused(b"turn, header word 6 is 1, worker 9:", &mut arena, 28, 9);
+    show_search(b"find_free, header word 6 is 1", lazy::find_free(&arena));
     show_words(b"  they stay:", &arena);
 }
 

@@ -1,6 +1,8 @@
 // Lines of output: a text, what was replied, words.
 use arena::Listing;
+use lazy::Search;
 use words::Verdict;
+use worker::Free;
 
 pub fn show(text: &[u8], verdict: Verdict) {
     io::write_all(1, text);
@@ -23,6 +25,29 @@ pub fn show_listing(text: &[u8], listing: Listing, keys: &[u16]) {
         Listing::Refused(number) => show_refused(number),
     }
     show_words(b"  lent words:", keys);
+}
+
+pub fn show_search(text: &[u8], search: Search) {
+    io::write_all(1, text);
+    match search {
+        Search::Done(found) => {
+            let free = found.free;
+            let reads = found.reads;
+            match free {
+                Free::Node(node) => {
+                    io::write_all(1, b": node");
+                    show_word(node);
+                }
+                Free::None => {
+                    io::write_all(1, b": none");
+                }
+            }
+            io::write_all(1, b", next words read");
+            show_word(reads);
+            end_line();
+        }
+        Search::Refused(number) => show_refused(number),
+    }
 }
 
 pub fn show_words(text: &[u8], words: &[u16]) {

@@ -1,5 +1,6 @@
--- Reached is what some run of links leads to, of any length; and the lowest free node is free, and no lower one is.
-use Prim.Native.Nat.{ℕ, zero, suc, _+_, _<_, _≤_}
+-- Reached is what some run of links leads to, of any length; the lowest free node is free, and no lower one is; and those counted are the
+-- nodes that are not free.
+use Prim.Native.Nat.{ℕ, zero, suc, _<_}
 use mathlib.Core.Path.{_≡_, refl, sym, _∙_}
 use mathlib.Core.Logic.{_↔_, ⊎-elim}
 use mathlib.Core.List.{List, [], _∷_, List·Memᴰ, List·Memᴰ·head, List·Memᴰ·tail}
@@ -12,16 +13,22 @@ use lib.ListN.{replicate, length-replicate}
 use lib.Dec.{ltb}
 use borrow.Author.Tests.{eqb-true, ne-eqb, ltb-true}
 use Rattle.worker.specs.declared.report.Free.the-variants as free
-use Rattle.lazy.specs.Free.{Run, here, on, Reached, IsFree, leads, reached, lowestFrom, lowestFree}
-use Rattle.lazy.proofs.Rows.{missing-at-most}
+use Rattle.words.specs.Layout.{nodesOf}
+use Rattle.arena.specs.Lists.{Pairs}
+use Rattle.arena.proofs.ListLaws.{in-filter, from-filter, pairs-filter}
+use Rattle.lazy.specs.Free.{Run, here, on, Reached, IsFree, leads, reached, lowestFree, notFree}
+use Rattle.lazy.specs.FindFree.{nextIn, rootsIn, foundIn}
+use Rattle.lazy.specs.Claims.{NotFree}
+use Rattle.lazy.proofs.Passing.{in-below, from-below, below-falls}
+use Rattle.lazy.proofs.Lowest.{found-from, none-from}
 use Rattle.lazy.proofs.ShortRuns.{avoids-none, avoids-leads}
 
 module _ (next : ℕ → ℕ) (count : ℕ) where
   -- what a run of any length leads to, a run of at most N links leads to
   pub run-leads : {root node : ℕ} → Run next count root node → leads next count count root node ≡ true
   run-leads run =
-      avoids-leads next count count (replicate count false) (rw length-replicate (le-refl count))
-      (missing-at-most count (replicate count false)) (avoids-none next count count run)
+      avoids-leads next count count (replicate count false) (rw length-replicate (le-refl count)) (omega arith)
+      (avoids-none next count count run)
 
   -- where the test says so of a node, there is a run
   pub leads-run : (links root node : ℕ) → node < count → leads next count links root node ≡ true → Run next count root node
@@ -70,47 +77,41 @@ module _ (next : ℕ → ℕ) (count : ℕ) where
       (dichotomy (reached next count roots node))
 
   module _ (roots : List ℕ) where
-    found-from : (left from : ℕ) {node : ℕ} → lowestFrom next count roots left from ≡ free.Node node →
-        (from ≤ node) × (node < from + left) × (reached next count roots node ≡ false)
-        × ((lower : ℕ) → from ≤ lower → lower < node → reached next count roots lower ≡ true)
-    unfolding lowestFrom
-    found-from zero from {node} e = let z : _≡_ {A = ℕ} 0 1 = cc in absurd (omega arith)
-    found-from (suc left) from {node} e =
-        ⊎-elim
-        (λ unreached.
-        let same : from ≡ node = cc (rw unreached at e) in
-        (omega arith, omega arith, rw (← same) unreached, λ lower h k. absurd (omega arith)))
-        (λ passed.
-        let found = found-from left (suc from) (rw passed at e) in (
-          omega arith,
-          omega arith,
-          found .2,
-          λ lower h k. elim (ℕ-discrete lower from) [ yes q ↦ rw q passed | no q ↦ found .3 lower (omega arith) k ],
-        ))
-        (dichotomy (reached next count roots from))
-
-    none-from : (left from : ℕ) → lowestFrom next count roots left from ≡ free.None →
-        (node : ℕ) → from ≤ node → node < from + left → reached next count roots node ≡ true
-    unfolding lowestFrom
-    none-from zero from e node h k = absurd (omega arith)
-    none-from (suc left) from e node h k =
-        ⊎-elim (λ unreached. let z : _≡_ {A = ℕ} 0 1 = cc (rw unreached at e) in absurd (omega arith))
-        (λ passed.
-        elim (ℕ-discrete node from) [
-          | yes q ↦ rw q passed
-          | no q ↦ none-from left (suc from) (rw passed at e) node (omega arith) (omega arith)
-        ])
-        (dichotomy (reached next count roots from))
-
     -- the lowest free node is free, and no lower one is
     pub lowest-found : {node : ℕ} → lowestFree next count roots ≡ free.Node node →
         IsFree next count roots node × ((lower : ℕ) → lower < node → IsFree next count roots lower → ⊥)
     unfolding lowestFree
     lowest-found {node} e =
-        let found = found-from count 0 e in
+        let found = found-from (reached next count roots) count 0 e in
         (is-free roots node (omega arith) (found .2), λ lower h. not-free roots lower (found .3 lower (omega arith) h))
 
     -- where there is none, no node is free
     pub lowest-none : lowestFree next count roots ≡ free.None → (node : ℕ) → IsFree next count roots node → ⊥
     unfolding lowestFree
-    lowest-none e node free = not-free roots node (none-from count 0 e node (omega arith) (omega (arith, free .below))) free
+    lowest-none e node free = not-free roots node (none-from (reached next count roots) count 0 e node (omega arith) (omega (arith, free .below))) free
+
+    -- those counted are the nodes that are not free
+    pub not-free-exact : (node : ℕ) → List·Memᴰ node (notFree next count roots) ↔ ((node < count) × (IsFree next count roots node → ⊥))
+    unfolding notFree
+    not-free-exact node = (
+      λ counted.
+          let both = from-filter (reached next count roots) counted in (from-below count (both .0), not-free roots node (both .1)),
+      λ taken.
+          let some = not-free-reached roots node (taken .0) (taken .1) in
+          in-filter (reached next count roots) (in-below count (taken .0)) (run-reached (some .1) (some .2)),
+    )
+
+    -- each once
+    pub not-free-once : Pairs (λ a b. b < a) (notFree next count roots)
+    unfolding notFree
+    not-free-once = pairs-filter (reached next count roots) (below-falls count)
+
+-- on an arena
+pub reads-not-free : (arena : List ℕ) → NotFree arena (foundIn arena .reads)
+reads-not-free arena =
+    record {
+      nodes = notFree (nextIn arena) (nodesOf arena) (rootsIn arena);
+      once = not-free-once (nextIn arena) (nodesOf arena) (rootsIn arena);
+      exact = not-free-exact (nextIn arena) (nodesOf arena) (rootsIn arena);
+      counted = refl;
+    }

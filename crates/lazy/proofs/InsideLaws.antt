@@ -20,18 +20,19 @@ use Rattle.words.proofs.Bounds.{wide}
 use Rattle.words.proofs.HeaderLaws.{Header}
 use Rattle.words.proofs.Slots.{slot-within}
 use Rattle.lazy.specs.Turn.{seenOf, seenBy, turnOn, turnArena}
-use Rattle.lazy.specs.Claims.{nextIn, rootsIn, Touches, Elsewhere}
+use Rattle.lazy.specs.FindFree.{nextIn, rootsIn, foundIn}
+use Rattle.lazy.specs.Claims.{Touches, Elsewhere}
 use Rattle.lazy.proofs.FreeLaws.{lowest-found}
-use Rattle.lazy.proofs.TurnLaws.{turn-leaves, turn-accepted, lowestFreeIn}
+use Rattle.lazy.proofs.TurnLaws.{turn-leaves, turn-accepted}
 
 -- the node of a turn's effect is below N
 pub effect-below : (arena : List ℕ) (worker : ℕ) {step : Step} → turnOn arena worker ≡ turned.Done step → EffectBelow (nodesOf arena) (step .effect)
 unfolding seenBy seenOf
 effect-below arena worker e =
     done-below (workerAt arena worker) (suc worker) (seenBy arena (workerAt arena worker)) (turn-accepted arena worker e .done)
-    (go (eqb (workerAt arena worker .stage) 14) (lowestFreeIn arena) refl)
+    (go (eqb (workerAt arena worker .stage) 14) (foundIn arena .free) refl)
   where
-    go : (t : Bool) (found : Free) → lowestFreeIn arena ≡ found → FreeBelow (nodesOf arena) (cond t found free.None)
+    go : (t : Bool) (found : Free) → foundIn arena .free ≡ found → FreeBelow (nodesOf arena) (cond t found free.None)
     go true free.None same = tt
     go true (free.Node node) same = lowest-found (nextIn arena) (nodesOf arena) (rootsIn arena) same .0 .below
     go false found same = tt

@@ -1,39 +1,25 @@
--- Laws of a row: how many nodes it misses, and what it holds with one more.
-use Prim.Native.Nat.{ℕ, zero, suc, _<_, _≤_, zero-le}
-use mathlib.Core.Path.{_≡_, refl, sym, ap, _∙_}
+-- Laws of a row: how many nodes it holds, and what it holds with one more.
+use Prim.Native.Nat.{ℕ, zero, suc, _+_, _<_, _≤_}
+use mathlib.Core.Path.{_≡_, refl, sym, _∙_}
 use mathlib.Core.Logic.{_⊎_, inl, inr}
-use mathlib.Core.List.{List, [], _∷_}
-use mathlib.Core.Bool.{Bool, true, false}
+use mathlib.Core.List.{List}
+use mathlib.Core.Bool.{Bool, true, false, _&&_, and-eq-true-iff}
 use native.Mathlib.Omega.{arith}
-use native.Mathlib.Decide.{ℕ-discrete}
+use native.Mathlib.Decide.{ℕ-discrete, decLt}
 use lib.ListN.{length, set, replicate}
 use lib.Seq.{getD-set-same, getD-set-other}
-use Rattle.lazy.specs.Row.{holds}
+use Rattle.lazy.specs.Row.{holds, held, AllHeld, fourHeld}
+use Rattle.lazy.proofs.Passing.{passing-few, passing-more}
 
--- how many of the first nodes a row does not hold
-pub missing : ℕ → List Bool → ℕ
-missing zero row = 0
-missing (suc count) [] = 0
-missing (suc count) (true ∷ row) = missing count row
-missing (suc count) (false ∷ row) = suc (missing count row)
+-- with a node that it did not hold, a row holds one more; so it did not hold them all
+abbrev pub OneMore : ℕ → List Bool → ℕ → Type 0
+OneMore count row node = (held count (set row node true) ≡ suc (held count row)) × (held count row < count)
 
-pub missing-at-most : (count : ℕ) (row : List Bool) → missing count row ≤ count
-unfolding missing
-missing-at-most zero row = zero-le
-missing-at-most (suc count) [] = zero-le
-missing-at-most (suc count) (true ∷ row) = omega (arith, missing-at-most count row)
-missing-at-most (suc count) (false ∷ row) = omega (arith, missing-at-most count row)
-
--- a node that the row did not hold is one less to miss
-pub one-less : (count : ℕ) (row : List Bool) (node : ℕ) → node < count → count ≤ length row → holds row node ≡ false →
-    suc (missing count (set row node true)) ≡ missing count row
-unfolding missing
-one-less zero row node h k e = absurd (omega arith)
-one-less (suc count) [] node h k e = absurd (omega arith)
-one-less (suc count) (true ∷ row) zero h k e = let z : _≡_ {A = ℕ} 0 1 = cc in absurd (omega arith)
-one-less (suc count) (false ∷ row) zero h k e = refl
-one-less (suc count) (true ∷ row) (suc node) h k e = one-less count row node (omega arith) (omega arith) e
-one-less (suc count) (false ∷ row) (suc node) h k e = ap suc (one-less count row node (omega arith) (omega arith) e)
+pub one-more : (count : ℕ) (row : List Bool) (node : ℕ) → node < count → count ≤ length row → holds row node ≡ false → OneMore count row node
+one-more count row node h k e =
+    let more = passing-more (holds row) (holds (set row node true)) count node h e (getD-set-same row node true false (omega arith))
+    (λ other q. sym (getD-set-other row node other true false q)) in
+    (more, omega (arith, passing-few (holds (set row node true)) count))
 
 -- with one more, a row holds what it held, and that one
 pub more-held : (row : List Bool) (more node : ℕ) → more < length row → (holds row node ≡ true) ⊎ (node ≡ more) →
@@ -55,3 +41,25 @@ pub holds-none : (size node : ℕ) → holds (replicate size false) node ≡ fal
 holds-none zero node = refl
 holds-none (suc size) zero = refl
 holds-none (suc size) (suc node) = holds-none size node
+
+-- nodes held one by one are held all
+module _ (row : List Bool) where
+  one-held : {node to : ℕ} → to ≤ node + 1 → holds row node ≡ true → AllHeld row node to
+  one-held {node} end e other h k = let same : other ≡ node = omega arith in rw same e
+
+  pub held-on : {from middle to : ℕ} → AllHeld row from middle → AllHeld row middle to → AllHeld row from to
+  held-on {middle} first second node h k = elim (decLt node middle) [ yes l ↦ first node h l | no l ↦ second node (omega arith) k ]
+
+  four-held : (node : ℕ) {to : ℕ} → to ≤ node + 4 → fourHeld row node ≡ true → AllHeld row node to
+  four-held node end e =
+      let last = and-eq-true-iff _ (holds row (node + 3)) .0 e in
+      let third = and-eq-true-iff _ (holds row (node + 2)) .0 (last .0) in
+      let first = and-eq-true-iff (holds row node) (holds row (node + 1)) .0 (third .0) in
+      held-on (one-held {to = node + 1} (omega arith) (first .0))
+      (held-on (one-held {to = node + 2} (omega arith) (first .1))
+      (held-on (one-held {to = node + 3} (omega arith) (third .1)) (one-held (omega arith) (last .1))))
+
+  pub eight-held : (node : ℕ) → (fourHeld row node && fourHeld row (node + 4)) ≡ true → AllHeld row node (node + 8)
+  eight-held node e =
+      let both = and-eq-true-iff (fourHeld row node) (fourHeld row (node + 4)) .0 e in
+      held-on (four-held node {to = node + 4} (omega arith) (both .0)) (four-held (node + 4) (omega arith) (both .1))

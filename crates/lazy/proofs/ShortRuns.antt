@@ -1,5 +1,5 @@
 -- A run need not come to a node twice: cut out what lies between, and at most as many links are left as there are nodes.
-use Prim.Native.Nat.{ℕ, zero, suc, _<_, _≤_}
+use Prim.Native.Nat.{ℕ, zero, suc, _+_, _<_, _≤_}
 use mathlib.Core.Path.{_≡_, subst, _∙_}
 use mathlib.Core.Logic.{_⊎_, inl, inr, ⊎-elim}
 use mathlib.Core.List.{List}
@@ -12,8 +12,8 @@ use lib.Seq.{getD-set-same, getD-set-other}
 use lib.Dec.{eqb}
 use borrow.Author.Tests.{eq-eqb, lt-ltb}
 use Rattle.lazy.specs.Free.{Run, here, on, leads}
-use Rattle.lazy.specs.Row.{holds}
-use Rattle.lazy.proofs.Rows.{missing, one-less, holds-none}
+use Rattle.lazy.specs.Row.{holds, held}
+use Rattle.lazy.proofs.Rows.{one-more, holds-none}
 
 module _ (next : ℕ → ℕ) (count : ℕ) where
   -- a run through nodes that a row does not hold
@@ -52,16 +52,16 @@ module _ (next : ℕ → ℕ) (count : ℕ) where
       (λ rest. rest)
       (cut row from ends run)
 
-  -- so each link takes a node that the row misses
-  pub avoids-leads : (links : ℕ) (row : List Bool) {from node : ℕ} → count ≤ length row → missing count row ≤ links →
+  -- so each link takes a node that the row does not hold
+  pub avoids-leads : (links : ℕ) (row : List Bool) {from node : ℕ} → count ≤ length row → count ≤ links + held count row →
       Avoids row from node → leads next count links from node ≡ true
   unfolding leads
   avoids-leads zero row {from} h k run =
       let first = begins run in
-      absurd (omega (arith, one-less count row from (first .0) h (first .1)))
+      absurd (omega (arith, one-more count row from (first .0) h (first .1) .1))
   avoids-leads (suc links) row {from} {node} h k run =
       let first = begins run in
-      let less = one-less count row from (first .0) h (first .1) in
+      let more = one-more count row from (first .0) h (first .1) .0 in
       elim (ℕ-discrete node from) [
         | yes q ↦ or-inl (eqb from node) _ (eq-eqb from node (cc))
         | no q ↦ or-inr (eqb from node) _

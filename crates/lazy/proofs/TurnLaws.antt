@@ -35,11 +35,11 @@ use Rattle.words.proofs.Bounds.{narrow}
 use Rattle.words.proofs.HeaderLaws.{Header, header-holds}
 use Rattle.words.proofs.Runs.{sets-outside}
 use Rattle.words.proofs.RecordLaws.{node-long, others-stay, rewritten}
-use Rattle.lazy.specs.Free.{lowestFree}
+use Rattle.lazy.specs.FindFree.{nextIn, rootsIn, foundIn}
 use Rattle.lazy.specs.declared.Outcome.{Outcome}
 use Rattle.lazy.specs.declared.Outcome.the-variants as outcome
 use Rattle.lazy.specs.Turn.{seenOf, seenBy, workerRefusals, turnOn, outcomeReply, outcomeOf, withEffect, turnedArena, turnAnswer, turnArena}
-use Rattle.lazy.specs.Claims.{nextIn, rootsIn, Takes, IsFull, Touches}
+use Rattle.lazy.specs.Claims.{Takes, IsFull, Touches}
 use Rattle.lazy.proofs.FreeLaws.{lowest-found, lowest-none}
 
 -- the reply tells the outcome, so a turn answers just what it comes to
@@ -128,25 +128,21 @@ still-stays arena worker report still e =
         let stays = still-step w (suc worker) (seenBy arena w) (ap (λ (t : Step). isStill (t .report)) (sym does) ∙ ap isStill (sym same) ∙ still) in
         ap (λ (t : Step). turnedArena arena worker (turned.Done t)) (does ∙ stays) ∙ rewritten arena worker
 
--- what the search finds in an arena
-abbrev pub lowestFreeIn : List ℕ → Free
-lowestFreeIn arena = lowestFree (nextIn arena) (nodesOf arena) (rootsIn arena)
-
 -- at 14 a free node is taken where there is one, and full is answered only where there is none
 pub takes-free : (arena : List ℕ) (worker : ℕ) {step : Step} → turnOn arena worker ≡ turned.Done step →
     workerAt arena worker .stage ≡ 14 → Takes arena (workerAt arena worker) step ⊎ IsFull arena (workerAt arena worker) step
 unfolding seenBy seenOf
 takes-free arena worker {step} e s =
-    go (lowestFreeIn arena) refl
+    go (foundIn arena .free) refl
     (turn-steps arena worker e ∙ step-row w (suc worker) (seenBy arena w) s ∙ ap (takes w) (seen-free (w .stage) s))
   where
     w : Worker
     w = workerAt arena worker
 
-    seen-free : (stage : ℕ) → stage ≡ 14 → cond (eqb stage 14) (lowestFreeIn arena) free.None ≡ lowestFreeIn arena
+    seen-free : (stage : ℕ) → stage ≡ 14 → cond (eqb stage 14) (foundIn arena .free) free.None ≡ foundIn arena .free
     seen-free stage s = rw s
 
-    go : (found : Free) → lowestFreeIn arena ≡ found → step ≡ takes w found → Takes arena w step ⊎ IsFull arena w step
+    go : (found : Free) → foundIn arena .free ≡ found → step ≡ takes w found → Takes arena w step ⊎ IsFull arena w step
     go free.None none same =
         inr (record {
           effect = ap (λ (t : Step). t .effect) same;

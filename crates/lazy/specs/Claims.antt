@@ -1,28 +1,31 @@
--- What is claimed of a turn on an arena, in document 01's words. `TurnLaws` and `InsideLaws` have the proofs.
+-- What is claimed of the search and of a turn on an arena, in document 01's words. `FreeLaws`, `TurnLaws` and `InsideLaws` have the proofs.
 use Prim.Native.Nat.{ℕ, _<_, _≤_}
 use mathlib.Core.Path.{_≡_}
-use mathlib.Core.Logic.{_⊎_}
-use mathlib.Core.List.{List}
+use mathlib.Core.Logic.{_⊎_, _↔_}
+use mathlib.Core.List.{List, List·Memᴰ}
+use lib.ListN.{length}
 use Rattle.worker.specs.Report.{answerNumber}
 use Rattle.worker.specs.declared.Worker.{Worker}
 use Rattle.worker.specs.declared.report.Answer.the-variants.{Full}
 use Rattle.worker.specs.declared.report.Step.{Step}
 use Rattle.worker.specs.declared.report.Effect.{Effect}
 use Rattle.worker.specs.declared.report.Effect.the-variants.{Nothing, SetOwner, SetNext, SetMark, Fill}
-use Rattle.words.specs.Layout.{layoutOf, workersOf, nodesOf, nodeWidth, nodesFrom, totalOf, nodePart, nodeFrom, nodeNext, nodeMark, nodeOwner}
-use Rattle.words.specs.Records.{workerAt, nextAt, Outside}
-use Rattle.lazy.specs.Free.{rootsOf, IsFree}
-
--- the links and the roots of an arena
-abbrev pub nextIn : List ℕ → ℕ → ℕ
-nextIn arena = nextAt (nodeWidth (layoutOf arena)) (nodePart arena)
-
-abbrev pub rootsIn : List ℕ → List ℕ
-rootsIn arena = rootsOf (workerAt arena) (workersOf arena)
+use Rattle.words.specs.Layout.{layoutOf, workersOf, nodesOf, nodeWidth, nodesFrom, totalOf, nodeFrom, nodeNext, nodeMark, nodeOwner}
+use Rattle.words.specs.Records.{Outside}
+use Rattle.arena.specs.Lists.{Pairs}
+use Rattle.lazy.specs.Free.{IsFree}
+use Rattle.lazy.specs.FindFree.{nextIn, rootsIn}
 
 -- no run of next links leads to the node from node 0, node 1, or the pred, curr or spare of any worker
 abbrev pub FreeIn : List ℕ → ℕ → Type 0
 FreeIn arena = IsFree (nextIn arena) (nodesOf arena) (rootsIn arena)
+
+-- so many nodes are not free: a list of that length has each of them once, and nothing else (`FreeLaws.reads-not-free`)
+pub record NotFree (arena : List ℕ) (many : ℕ) : Type 0 where
+  pub nodes : List ℕ
+  pub once : Pairs (λ a b. b < a) nodes
+  pub exact : (node : ℕ) → List·Memᴰ node nodes ↔ ((node < nodesOf arena) × (FreeIn arena node → ⊥))
+  pub counted : length nodes ≡ many
 
 -- a turn at 14 (`TurnLaws.takes-free`)
 module _ (arena : List ℕ) (w : Worker) (step : Step) where

@@ -1,13 +1,13 @@
-// The lazy list on an arena: a worker's turn.
+// The lazy list on an arena: a worker's turn, and the search for a free node.
 ghost use mathlib.Core.Path.{_≡_};
 ghost use mathlib.Core.List.{[]};
-ghost use Prim.Native.Nat.{_≤_};
-ghost use Rattle.words.specs.Layout.{workersOf};
-ghost use Rattle.words.specs.Records.{workerAt, nodeAt};
+ghost use Rattle.words.specs.Layout.{nodePart};
+ghost use Rattle.words.specs.Records.{nodeAt};
 ghost use Rattle.words.specs.Replies.{replied, accepted};
 ghost use Rattle.words.specs.Header.{headerRefusals};
+ghost use Rattle.lazy.specs.FindFree.{searchReply, findFreeAnswer};
 ghost use Rattle.lazy.specs.Sight.{looksAtPred, looksAtCurr, lookedAt, sight};
-ghost use Rattle.lazy.specs.Turn.{outcomeReply, seenOf, seenBy, turnOn, withEffect, turnAnswer, turnArena};
+ghost use Rattle.lazy.specs.Turn.{outcomeReply, seenBy, turnOn, withEffect, turnAnswer, turnArena};
 use words::Verdict;
 use words::layout;
 use words::records;
@@ -25,6 +25,18 @@ mod free;
 // What a turn answers.
 pub enum Outcome {
     Reported(Report),
+    Refused(u16),
+}
+
+// What the search for a free node comes to: the node, or that there is none; and how many next words it read.
+pub struct Found {
+    pub free: Free,
+    pub reads: u16,
+}
+
+// What find_free answers.
+pub enum Search {
+    Done(Found),
     Refused(u16),
 }
 
@@ -46,6 +58,17 @@ pub fn turn(arena: &mut [u16], worker: u16) -> Outcome
     }
 }
 
+// The lowest-numbered free node (document 01: the hunt), and how many next words the search for it read: one for each node that is not
+// free.
+pub fn find_free(arena: &[u16]) -> Search
+    ensures { λ r. ⌜ searchReply r ≡ findFreeAnswer (now (arena .entry)) ⌝ }
+{
+    if let Verdict::Refused(number) = words::header_verdict(arena) {
+        return Search::Refused(number);
+    }
+    Search::Done(free::search(arena))
+}
+
 // What the turn comes to, with nothing written yet.
 fn turned(arena: &[u16], worker: u16) -> Turned
     ensures { λ r. ⌜ r ≡ turnOn (now (arena .entry)) worker ⌝ }
@@ -61,28 +84,18 @@ fn turned(arena: &[u16], worker: u16) -> Turned
     state.turn(worker + 1, seen)
 }
 
-// What the turn of a worker looks at.
+// What the turn of a worker looks at. Only the stage that takes a free node searches for one.
 fn see(arena: &[u16], state: Worker) -> Seen
     requires { ⌜ accepted [] ≡ replied (headerRefusals (now arena)) [] ⌝ }
     ensures { λ r. ⌜ r ≡ sight state (seenBy (now (arena .entry)) state) ⌝ }
 {
-    let from = words::word(arena, layout::NODES_FROM_AT) as usize;
-    let total = words::word(arena, layout::TOTAL_AT) as usize;
+    let nodes = node_part(arena);
     let width = layout::node_width(words::word(arena, layout::LAYOUT_AT));
     let count = words::word(arena, layout::NODES_AT);
-    look(arena, &arena[from..total], width, count, state)
-}
-
-// The node records are handed on as their part of the arena. Only the stage that takes a free node looks for one.
-fn look(arena: &[u16], nodes: &[u16], width: u16, count: u16, state: Worker) -> Seen
-    requires { ⌜ count ≤ 1024 ⌝ }
-    ensures { λ r. ⌜ r ≡ sight state (seenOf (workerAt (now (arena .entry))) (workersOf (now (arena .entry)))
-        (nodeAt width (now (nodes .entry))) count state) ⌝ }
-{
     let pred = look_at_pred(nodes, width, state);
     let curr = look_at_curr(nodes, width, state);
     if state.stage == Worker::TAKE_STAGE {
-        let free = free::find_free(arena, nodes, width, count);
+        let free = free::search(arena).free;
         return Seen {
             count,
             pred,
@@ -96,6 +109,16 @@ fn look(arena: &[u16], nodes: &[u16], width: u16, count: u16, state: Worker) -> 
         curr,
         free: Free::None,
     }
+}
+
+// The node records, where the header places them.
+fn node_part(arena: &[u16]) -> &[u16]
+    requires { ⌜ accepted [] ≡ replied (headerRefusals (now arena)) [] ⌝ }
+    ensures { λ r. ⌜ now r ≡ nodePart (now (arena .entry)) ⌝ }
+{
+    let from = words::word(arena, layout::NODES_FROM_AT) as usize;
+    let total = words::word(arena, layout::TOTAL_AT) as usize;
+    &arena[from..total]
 }
 
 // The node pred, for the stages that look at its next, owner or mark.

@@ -3,9 +3,9 @@
 use Prim.Native.Nat.{ℕ, zero, suc}
 use mathlib.Core.List.{List, [], _∷_, _++_}
 use lib.ListN.{replicate}
-use Rattle.worker.specs.Node.{head}
+use Rattle.worker.specs.Node.{head, noNode}
 use Rattle.worker.specs.Worker.{add, remove, contains}
-use Rattle.worker.specs.Refusals.{shortArena, busy, badCall, noRoom, badCounts}
+use Rattle.worker.specs.Refusals.{shortArena, oddHeader, busy, badCall, noRoom, badCounts}
 use Rattle.worker.specs.Report.{reportValues}
 use Rattle.worker.specs.declared.report.Answer.the-variants.{Yes, No}
 use Rattle.worker.specs.declared.report.Report.{Report}
@@ -15,15 +15,17 @@ use Rattle.words.specs.Replies.{Reply, refused, accepted}
 use Rattle.arena.specs.Init.{initAnswer, initArena}
 use Rattle.arena.specs.Start.{startAnswer, startArena}
 use Rattle.arena.specs.Snapshot.{snapshotAnswer}
+use Rattle.lazy.specs.FindFree.{findFreeAnswer}
 use Rattle.lazy.specs.Turn.{turnAnswer, turnArena}
 
 -- what is asked of an arena: init with layout, W and N, a start with worker, operation, key and length, so many turns of a worker, a
--- snapshot with so much room, or the word at a place
+-- snapshot with so much room, the lowest free node, or the word at a place
 pub data Ask : Type 0 where
   init : ℕ → ℕ → ℕ → Ask
   start : ℕ → ℕ → ℕ → ℕ → Ask
   turns : ℕ → ℕ → Ask
   list : ℕ → Ask
+  search : Ask
   look : ℕ → Ask
 
 abbrev pub afterTurns : List ℕ → ℕ → ℕ → List ℕ
@@ -41,6 +43,7 @@ replyTo arena (init layout workers nodes) = initAnswer arena layout workers node
 replyTo arena (start worker operation key length) = startAnswer arena worker operation key length
 replyTo arena (turns worker count) = lastReply arena worker count
 replyTo arena (list room) = snapshotAnswer arena room
+replyTo arena search = findFreeAnswer arena
 replyTo arena (look at) = accepted (word arena at ∷ [])
 
 -- and the arena afterwards
@@ -49,6 +52,7 @@ arenaAfter arena (init layout workers nodes) = initArena arena layout workers no
 arenaAfter arena (start worker operation key length) = startArena arena worker operation key length
 arenaAfter arena (turns worker count) = afterTurns arena worker count
 arenaAfter arena (list room) = arena
+arenaAfter arena search = arena
 arenaAfter arena (look at) = arena
 
 abbrev pub arenaAfterAll : List ℕ → List Ask → List ℕ
@@ -139,4 +143,12 @@ cases =
     ∷ row 28 (removing 9) (list 0) (refused noRoom)
     ∷ row 28 (removing 10) (list 0) (accepted (0 ∷ []))
     ∷ row 28 (removing 12) (list 0) (accepted (0 ∷ []))
+    -- fewer than 8 words: 1; 28 zeros: 2; on a fresh arena node 2 is free, and Head and Tail are read; with 5 stored no node is, and all are
+    -- read; the removed node is free once the call has finished, and not before (document 02, A4)
+    ∷ row 7 [] search (refused shortArena)
+    ∷ row 28 [] search (refused oddHeader)
+    ∷ row 28 (small ∷ []) search (accepted (2 ∷ 2 ∷ []))
+    ∷ row 28 (stored contains) search (accepted (noNode ∷ 3 ∷ []))
+    ∷ row 28 (removing 14) search (accepted (noNode ∷ 3 ∷ []))
+    ∷ row 28 (removing 15) search (accepted (2 ∷ 2 ∷ []))
     ∷ []

@@ -1,16 +1,16 @@
 -- Laws of the header test.
-use Prim.Native.Nat.{ℕ, zero, suc, _+_, _≤_, _<_}
+use Prim.Native.Nat.{ℕ, zero, suc, _+_, _*_, _-_, _≤_, _<_}
 use mathlib.Core.Path.{_≡_, refl, sym, ap, _∙_}
 use mathlib.Core.Logic.{_↔_}
 use mathlib.Core.List.{List, [], _∷_}
 use mathlib.Core.Bool.{Bool, true, false, _||_, true≢false, and-eq-true-iff}
 use native.Mathlib.Omega.{arith}
 use native.Mathlib.Nat.{zero-add, add-zero, add-suc, suc-add}
-use lib.ListN.{length, take}
+use lib.ListN.{length, take, drop, length-drop}
 use lib.Seq.{getD-take, length-take-le, ext-getD}
 use lib.Dec.{eqb}
 use borrow.Author.Tests.{eqb-true, eq-eqb, ltb-false, not-false}
-use Rattle.words.specs.Layout.{word, headerWidth, nodesFrom, total, goodCounts, headerWords, layoutOf, workersOf, nodesOf, nodesFromOf, totalOf}
+use Rattle.words.specs.Layout.{word, headerWidth, nodesFrom, total, nodeWidth, nodePart, goodCounts, headerWords, layoutOf, workersOf, nodesOf, nodesFromOf, totalOf}
 use Rattle.words.specs.Replies.{accepted, replied}
 use Rattle.words.specs.Header.{agrees, isHeader, HeaderOfSome, headerRefusals}
 use Rattle.words.proofs.Bounds.{Counts, counts}
@@ -58,6 +58,15 @@ header-holds arena e =
       from = agrees-at arena (headerWords (layoutOf arena) (workersOf arena) (nodesOf arena)) 0 4 (all .1) (omega arith);
       end = agrees-at arena (headerWords (layoutOf arena) (workersOf arena) (nodesOf arena)) 0 5 (all .1) (omega arith);
     }
+
+-- the node records have as many words as the nodes need
+pub part-long : (arena : List ℕ) → Header arena → length (nodePart arena) ≡ nodeWidth (layoutOf arena) * nodesOf arena
+unfolding nodePart
+part-long arena header =
+    let from = nodesFromOf arena in
+    let span : totalOf arena - from ≡ nodeWidth (layoutOf arena) * nodesOf arena = omega (arith, header .from, header .end) in
+    let fits : totalOf arena - from ≤ length (drop from arena) = rw length-drop (omega (arith, header .whole)) in
+    length-take-le (totalOf arena - from) (drop from arena) fits ∙ span
 
 -- the test is document 01's
 pub header-of-some : (arena : List ℕ) → headerWidth ≤ length arena → (isHeader arena ≡ true) ↔ HeaderOfSome arena

@@ -1,41 +1,44 @@
--- The header places the node records.
-use native.Mathlib.Omega.{arith}
+-- Both ends of the test give the definition's choice.
 use borrow.Author.Needs.{needs}
-use denote.Ref.{now}
-use Rattle.words.specs.Layout.{nodePart}
-use Rattle.words.proofs.HeaderLaws.{Header, header-holds}
-use Rattle.lazy.specs.Turn.{seenBy}
+use borrow.Author.Tests.{eq-eqb, ne-eqb}
+use Rattle.lazy.specs.Sight.{sight}
+use Rattle.lazy.specs.Turn.{seenOf, seenBy}
 use Rattle.lazy.proofs.see.Statement.{statement}
 use Rattle.lazy.proofs.see.Tie as tie
 
-header : (c : tie.After-word4) → Header (now (c .before .before .before .before .before .before .args .arena))
-header c = header-holds (now (c .before .before .before .before .before .before .args .arena)) (c .before .before .before .before .before .before .pre)
-
-ordered : tie.Need-sub-look
-ordered c =
-    omega (arith, header c, c .before .before .before .before .word .ensures, c .before .before .before .word2 .ensures)
-
-starts : tie.Need-part-look-start
-starts c =
-    omega (arith, header c, c .before .before .before .before .word .ensures, c .before .before .before .word2 .ensures)
-
-ends : tie.Need-part-look-end
-ends c = omega (arith, header c, c .before .before .before .word2 .ensures)
-
-few : tie.Need-look-requires
-few c κs = omega (arith, header (c .before), c .before .word4 .ensures)
-
-seen : tie.Need-returns
-unfolding seenBy nodePart
-seen c =
-    let reads = c .before .before in
+with-free : tie.Need-returns
+unfolding seenBy seenOf sight
+with-free c =
+    let looks = c .before .before .before in
+    let reads = looks .before .before in
     rw (
-      reads .word4 .ensures,
+      eq-eqb _ _ (c .before .if1 .taken),
+      c .search .ensures,
+      looks .look-at-curr .ensures,
+      looks .before .look-at-pred .ensures,
+      reads .word2 .ensures,
       reads .before .node-width .ensures,
-      reads .before .before .word3 .ensures,
-      reads .before .before .before .word2 .ensures,
-      reads .before .before .before .before .word .ensures,
-    ) at (c .look .ensures)
+      reads .before .before .word .ensures,
+      reads .before .before .before .node-part .ensures,
+    )
+
+without : tie.Need-returns-2
+unfolding seenBy seenOf sight
+without c =
+    let looks = c .before .before in
+    let reads = looks .before .before in
+    rw (
+      ne-eqb _ _ (c .if1 .left),
+      looks .look-at-curr .ensures,
+      looks .before .look-at-pred .ensures,
+      reads .word2 .ensures,
+      reads .before .node-width .ensures,
+      reads .before .before .word .ensures,
+      reads .before .before .before .node-part .ensures,
+    )
 
 pub see-spec : {M : Type 1} → statement M
-see-spec = tie.close (tie.spec (search needs) (search needs) (search needs) (search needs) (search needs) (search needs) (search needs) (search needs) ordered starts ends few seen)
+see-spec =
+    tie.close
+    (tie.spec (λ c κs. c .before .pre) (search needs) (search needs) (search needs) (search needs) (search needs)
+    (λ c κs. c .before .before .before .before .before .before .before .before .before .pre) with-free without)
