@@ -7,10 +7,12 @@ use crate::limits::CASES;
 use crate::linearizable::{check_times, check_told, explained};
 use crate::rng::Rng;
 use crate::run::Call;
+use crate::selftest_free;
 use crate::selftest_lengths;
 use crate::selftest_plain;
 use crate::selftest_refusals;
 use crate::selftest_roll;
+use crate::selftest_searches;
 use crate::selftest_waits;
 use crate::selftest_words;
 use crate::sequential;
@@ -127,6 +129,8 @@ pub fn selftest() -> Checks {
     selftest_waits::waits(&mut checks);
     selftest_lengths::lengths(&mut checks);
     selftest_roll::rolls(&mut checks);
+    selftest_free::free_nodes(&mut checks);
+    selftest_searches::searches(&mut checks);
     selftest_words::any_words(&mut checks);
     selftest_plain::plain_runs(&mut checks);
     checks

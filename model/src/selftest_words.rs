@@ -2,28 +2,13 @@
 
 use crate::arena::*;
 use crate::rng::Rng;
-use crate::selftest::{fresh, Checks};
+use crate::selftest::Checks;
 use crate::selftest_refusals::SHAPES;
 use crate::selftest_roll::keys_of;
-use crate::turn::{find_free, turn, Report};
-
-/// What only Tail or a worker leads to is not free, whatever the worker does.
-fn free_nodes(checks: &mut Checks, shape: Shape) {
-    let mut arena = fresh(shape);
-    checks.check("2 is free", find_free(&arena, shape) == Some(2));
-    arena[shape.node_at(TAIL) + NEXT] = 2;
-    arena[shape.node_at(2) + NEXT] = 0;
-    checks.check("Tail leads to 2", find_free(&arena, shape) == Some(3));
-    for word in [PRED, CURR, SPARE] {
-        let mut held = arena.clone();
-        held[shape.worker_at(1) + word] = 3;
-        checks.check("idle worker on 3", find_free(&held, shape).is_none());
-    }
-}
+use crate::turn::{turn, Report};
 
 pub fn any_words(checks: &mut Checks) {
     for (shape, total) in SHAPES {
-        free_nodes(checks, shape);
         any_words_in(checks, shape, total);
     }
 }

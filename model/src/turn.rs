@@ -1,6 +1,7 @@
 //! One turn of a worker, on an arena of any content.
 
 use crate::arena::*;
+use crate::free::find_free_in;
 
 #[derive(Clone, Copy, Debug, PartialEq, Eq)]
 pub enum Answer {
@@ -236,7 +237,7 @@ fn change(me: &mut Record, arena: &mut [u16], shape: Shape) -> Result<Next, u16>
                 _ => decide(me, Answer::No, 19),
             }
         }
-        14 => match find_free(arena, shape) {
+        14 => match find_free_in(arena, shape).node {
             None => decide(me, Answer::Full, 19),
             Some(node) => {
                 let record = [me.key, me.curr, 0, 0, me.length];
@@ -269,27 +270,4 @@ fn change(me: &mut Record, arena: &mut [u16], shape: Shape) -> Result<Next, u16>
 fn decide(me: &mut Record, answer: Answer, to: u16) -> u16 {
     me.answer = answer.number();
     to
-}
-
-/// The lowest-numbered free node (document 01: the hunt): one that no run of next links leads to
-/// from Head, Tail, or the pred, curr or spare of any worker.
-pub fn find_free(arena: &[u16], shape: Shape) -> Option<u16> {
-    let mut reached = [false; MAX_NODES as usize];
-    // A node has one link, so each root is walked until the walk joins an earlier one.
-    let mut walk = |root: u16| {
-        let mut node = root;
-        while node < shape.nodes && !reached[node as usize] {
-            reached[node as usize] = true;
-            node = arena[shape.node_at(node) + NEXT];
-        }
-    };
-    walk(HEAD);
-    walk(TAIL);
-    for worker in 0..shape.workers {
-        let at = shape.worker_at(worker);
-        walk(arena[at + PRED]);
-        walk(arena[at + CURR]);
-        walk(arena[at + SPARE]);
-    }
-    (0..shape.nodes).find(|&node| !reached[node as usize])
 }

@@ -9,15 +9,18 @@ mod lent;
 mod met;
 mod met_lengths;
 mod met_rolls;
+mod met_searches;
 mod placed;
 mod reached;
 mod requests;
+mod roots;
 mod schedules;
 pub mod tally;
 pub mod wrong;
 mod wrong_lengths;
 mod wrong_others;
 mod wrong_runs;
+mod wrong_searches;
 mod wrong_turns;
 
 use std::sync::atomic::{AtomicU64, Ordering};
@@ -32,6 +35,7 @@ use comparer::{Comparer, Outcome};
 use coverage::Column;
 use met::TurnWait;
 use requests::Request;
+use roots::Rooted;
 use tally::Tally;
 
 const THREADS: usize = 2;
@@ -135,8 +139,8 @@ impl<'a> Examiner<'a> {
         }
     }
 
-    /// Compares on one arena: turn (twice, since it has the most cases), start and snapshot always;
-    /// init and run, which do not look at what an arena holds, now and then.
+    /// Compares on one arena: turn (twice, since it has the most cases), start, snapshot and find_free
+    /// always; init and run, which do not look at what an arena holds, now and then.
     fn arena(&mut self, number: u64, arenas: &Arenas, rng: &mut Rng) {
         let words = &arenas.words;
         self.tally.arena(Kind::of(number), words);
@@ -144,6 +148,7 @@ impl<'a> Examiner<'a> {
         self.compare(number, words, &requests::turn(rng, arenas));
         self.compare(number, words, &requests::start(rng, arenas));
         self.compare(number, words, &requests::snapshot(rng, words));
+        self.compare(number, words, &Request::FindFree);
         if rng.chance(5) {
             let (length, init) = requests::init(rng);
             self.compare(number, &fitted(words, length), &init);
@@ -185,6 +190,11 @@ impl<'a> Examiner<'a> {
         if let (Request::Snapshot { .. }, Some(values)) = (request, Values::read(reply)) {
             let keys = &self.comparer.last_keys()[..values.first as usize];
             coverage.note_roll(is_set_of(words, keys));
+        }
+        if let (Request::FindFree, Some(values)) = (request, Values::read(reply)) {
+            let rooted = Rooted::of(words).expect("the header was not refused");
+            coverage.note_search(rooted.found() == values);
+            met.note_search(&rooted, reached);
         }
         met.note_reply(request, reply, self.comparer.last_run());
         met.note_length(words, request, reply);

@@ -1,6 +1,7 @@
 //! The entry points of include/lazy_list.h, of the proved library and of the model.
 
 use model::arena;
+use model::free;
 use model::run;
 use model::turn;
 
@@ -15,6 +16,7 @@ pub trait Library: Sync {
     fn start(&self, arena: &mut [u16], worker: u16, call: Start) -> u64;
     fn turn(&self, arena: &mut [u16], worker: u16) -> u64;
     fn snapshot(&self, arena: &[u16], keys: &mut [u16]) -> u64;
+    fn find_free(&self, arena: &[u16]) -> u64;
     fn run(&self, run: Run) -> u64;
 }
 
@@ -85,6 +87,7 @@ mod c {
             keys: *mut u16,
             keys_length: usize,
         ) -> u64;
+        pub fn lazy_list_find_free(arena: *const u16, length: usize) -> u64;
         pub fn lazy_list_run(
             arena: *mut u16,
             length: usize,
@@ -134,6 +137,10 @@ impl Library for Proved {
 
     fn snapshot(&self, arena: &[u16], keys: &mut [u16]) -> u64 {
         unsafe { c::lazy_list_snapshot(arena.as_ptr(), arena.len(), keys.as_mut_ptr(), keys.len()) }
+    }
+
+    fn find_free(&self, arena: &[u16]) -> u64 {
+        unsafe { c::lazy_list_find_free(arena.as_ptr(), arena.len()) }
     }
 
     fn run(&self, run: Run) -> u64 {
@@ -219,6 +226,15 @@ fn count_values(count: usize) -> Values {
     }
 }
 
+/// The node, or 65,535 for none; the next words read.
+pub fn found_values(found: free::Found) -> Values {
+    Values {
+        first: found.node.unwrap_or(arena::NONE),
+        second: found.reads,
+        ..Values::default()
+    }
+}
+
 impl Library for Model {
     fn init(&self, arena: &mut [u16], layout: u16, workers: u16, nodes: u16) -> u64 {
         number(arena::init(arena, layout, workers, nodes).map(|()| Values::default()))
@@ -235,6 +251,10 @@ impl Library for Model {
 
     fn snapshot(&self, arena: &[u16], keys: &mut [u16]) -> u64 {
         number(arena::snapshot(arena, keys).map(count_values))
+    }
+
+    fn find_free(&self, arena: &[u16]) -> u64 {
+        number(free::find_free(arena).map(found_values))
     }
 
     fn run(&self, run: Run) -> u64 {

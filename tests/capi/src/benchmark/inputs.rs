@@ -5,10 +5,13 @@ use std::ops::Range;
 use model::arena::*;
 use model::plain;
 use model::rng::Rng;
-use model::turn::{turn, Report};
+use model::run::ENTRY_WORDS;
+use model::turn::{turn, Answer, Report};
 
 use crate::benchmark::measure::Words;
-use crate::benchmark::workloads::{Entries, Entry, Inits, Runs, SameTurn, Snapshots};
+use crate::benchmark::workloads::{
+    Entries, Entry, Fill, Inits, Runs, SameTurn, Searches, Snapshots,
+};
 use crate::library::{CALL_WORDS, WAIT_WORDS};
 
 const SEED: u64 = 5;
@@ -143,6 +146,35 @@ pub fn stage_14(nodes: u16, keys: u16) -> SameTurn {
     }
 }
 
+/// Adds by worker 0, one after another on a fresh arena, until one is answered full. Each key is the
+/// lowest so far, so that no add walks along the chain.
+pub fn filling(nodes: u16) -> Fill {
+    let mut arena = fresh(LAYOUT_2, nodes);
+    let words = Words::new(arena.clone(), 0);
+    let (mut entries, mut adds) = (Vec::new(), 0);
+    let mut answer = None;
+    while answer != Some(Answer::Full) {
+        adds += 1;
+        answer = Some(whole_add(&mut arena, nodes - adds, &mut entries));
+    }
+    Fill {
+        entries: Entries { words, entries },
+        adds: adds.into(),
+    }
+}
+
+/// Makes an add by worker 0 and its turns up to its finish; gives its answer.
+fn whole_add(arena: &mut [u16], key: u16, entries: &mut Vec<Entry>) -> Answer {
+    start(arena, 0, ADD, key, LENGTH).expect("an idle worker");
+    entries.push([0, ADD, key, LENGTH]);
+    loop {
+        entries.push([0; ENTRY_WORDS]);
+        if let Report::Finished(answer) = turn(arena, 0).expect("a sound arena") {
+            return answer;
+        }
+    }
+}
+
 /// Runs of so many entries each; as many runs as make a pass of the same length.
 pub fn runs(nodes: u16, entries: usize, greatest_key: u16) -> Runs {
     let fresh = arena_with_keys(nodes, 0);
@@ -219,6 +251,14 @@ pub fn snapshots(nodes: u16) -> Snapshots {
     let keys = nodes - 2;
     Snapshots {
         words: Words::new(arena_with_keys(nodes, keys), keys.into()),
+        repeats: REPEATS,
+    }
+}
+
+/// Searches of a full chain.
+pub fn searches(nodes: u16) -> Searches {
+    Searches {
+        words: Words::new(arena_with_keys(nodes, nodes - 2), 0),
         repeats: REPEATS,
     }
 }

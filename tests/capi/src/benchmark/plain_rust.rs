@@ -28,6 +28,11 @@ impl Library for PlainRust {
         Model.snapshot(arena, keys)
     }
 
+    #[inline(never)]
+    fn find_free(&self, arena: &[u16]) -> u64 {
+        Model.find_free(arena)
+    }
+
     /// Not the model's, which keeps the set at every time.
     #[inline(never)]
     fn run(&self, run: Run) -> u64 {

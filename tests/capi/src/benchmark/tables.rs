@@ -1,4 +1,4 @@
-//! What the two tables measure.
+//! What the tables measure.
 
 use model::arena::{LAYOUT_1, LAYOUT_2};
 
@@ -33,14 +33,7 @@ pub fn side_by_side(rounds: usize, show: &mut dyn FnMut(Row)) {
     ));
     show(turns("look-up turns, 1 worker", inputs::lookups(1_024, 1)));
     show(turns("look-up turns, 8 workers", inputs::lookups(1_024, 8)));
-    let search = |what, keys| {
-        row(
-            what,
-            Operation::Other,
-            &inputs::stage_14(1_024, keys),
-            rounds,
-        )
-    };
+    let search = |what, keys| other(what, &inputs::stage_14(1_024, keys), rounds);
     show(search("stage 14, 1,022 keys, full", 1_022));
     show(search("stage 14, 511 keys, node taken", 511));
     let run = |what, nodes| {
@@ -49,19 +42,17 @@ pub fn side_by_side(rounds: usize, show: &mut dyn FnMut(Row)) {
     };
     show(run("entry of a run, 1,024 nodes", 1_024));
     show(run("entry of a run, 64 nodes", 64));
-    let init = |what, layout| {
-        let inits = inputs::inits(layout, 1_024);
-        row(what, Operation::Other, &inits, rounds)
-    };
+    let init = |what, layout| other(what, &inputs::inits(layout, 1_024), rounds);
     show(init("init, 1,024 nodes, layout 1", LAYOUT_1));
     show(init("init, 1,024 nodes, layout 2", LAYOUT_2));
-    let snapshot = inputs::snapshots(1_024);
-    show(row(
-        "snapshot, 1,022 keys",
-        Operation::Other,
-        &snapshot,
-        rounds,
-    ));
+    let snapshots = inputs::snapshots(1_024);
+    show(other("snapshot, 1,022 keys", &snapshots, rounds));
+    let searches = inputs::searches(1_024);
+    show(other("find_free, 1,022 keys, full", &searches, rounds));
+}
+
+fn other(what: &'static str, work: &impl Workload, rounds: usize) -> Row {
+    row(what, Operation::Other, work, rounds)
 }
 
 fn row(what: &'static str, operation: Operation, work: &impl Workload, rounds: usize) -> Row {
@@ -85,5 +76,13 @@ pub fn by_nodes(rounds: usize, show: &mut dyn FnMut(u16, [Measured; 2])) {
 pub fn by_entries(rounds: usize, show: &mut dyn FnMut(usize, Measured)) {
     for entries in ENTRY_COUNTS {
         show(entries, measure(&inputs::runs(64, entries, 20), rounds));
+    }
+}
+
+/// Filling a fresh arena, by the number of nodes; with the number of adds.
+pub fn by_filling(rounds: usize, show: &mut dyn FnMut(u16, usize, Measured)) {
+    for nodes in NODE_COUNTS {
+        let fill = inputs::filling(nodes);
+        show(nodes, fill.adds, measure(&fill, rounds));
     }
 }

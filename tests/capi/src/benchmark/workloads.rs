@@ -41,6 +41,27 @@ impl Workload for Entries {
     }
 }
 
+/// An arena filled from fresh, as one operation.
+pub struct Fill {
+    pub entries: Entries,
+    /// The last one is answered full.
+    pub adds: usize,
+}
+
+impl Workload for Fill {
+    fn words(&self) -> &Words {
+        self.entries.words()
+    }
+
+    fn operations(&self) -> usize {
+        1
+    }
+
+    fn pass<L: Library>(&self, library: &L, words: &mut Words, reply: impl FnMut(u64)) {
+        self.entries.pass(library, words, reply);
+    }
+}
+
 /// The same turn of worker 0 again and again. Its record and one node are put back each time; both
 /// sides pay for that alike.
 pub struct SameTurn {
@@ -160,6 +181,27 @@ impl Workload for Snapshots {
     fn pass<L: Library>(&self, library: &L, words: &mut Words, mut reply: impl FnMut(u64)) {
         for _ in 0..self.repeats {
             reply(library.snapshot(&words.arena, &mut words.out));
+        }
+    }
+}
+
+pub struct Searches {
+    pub words: Words,
+    pub repeats: usize,
+}
+
+impl Workload for Searches {
+    fn words(&self) -> &Words {
+        &self.words
+    }
+
+    fn operations(&self) -> usize {
+        self.repeats
+    }
+
+    fn pass<L: Library>(&self, library: &L, words: &mut Words, mut reply: impl FnMut(u64)) {
+        for _ in 0..self.repeats {
+            reply(library.find_free(&words.arena));
         }
     }
 }

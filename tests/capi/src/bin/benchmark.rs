@@ -23,6 +23,7 @@ fn main() -> ExitCode {
     print_side_by_side(rounds, &mut differences);
     print_by_nodes(rounds, &mut differences);
     print_by_entries(rounds, &mut differences);
+    print_by_filling(rounds, &mut differences);
     for difference in &differences {
         println!("DIFFERENT: {difference}");
     }
@@ -77,12 +78,7 @@ fn figure(what: &str, operation: &Operation, whole: Times) -> Option<String> {
 }
 
 fn print_by_nodes(rounds: usize, differences: &mut Vec<String>) {
-    println!(
-        "{:<9}{:>30}{:>30}",
-        "", "ordinary turn", "stage 14, full chain"
-    );
-    let columns = ["proved (ns)", "Rust (ns)", "proved (ns)", "Rust (ns)"];
-    println!("{:<9}{}", "nodes", headings(&columns));
+    growth_headings("nodes", ["ordinary turn", "stage 14, full chain"]);
     tables::by_nodes(rounds, &mut |nodes, [ordinary, search]| {
         let what = format!("{nodes} nodes");
         let ordinary = times(&format!("ordinary turn, {what}"), ordinary, differences);
@@ -95,9 +91,7 @@ fn print_by_nodes(rounds: usize, differences: &mut Vec<String>) {
 }
 
 fn print_by_entries(rounds: usize, differences: &mut Vec<String>) {
-    println!("{:<9}{:>30}{:>30}", "", "a whole run", "an entry of it");
-    let columns = ["proved (ns)", "Rust (ns)", "proved (ns)", "Rust (ns)"];
-    println!("{:<9}{}", "entries", headings(&columns));
+    growth_headings("entries", ["a whole run", "an entry of it"]);
     tables::by_entries(rounds, &mut |entries, measured| {
         let what = format!("run of {entries} entries");
         if let Some(whole) = times(&what, measured, differences) {
@@ -105,6 +99,24 @@ fn print_by_entries(rounds: usize, differences: &mut Vec<String>) {
             println!("{entries:<9}{}{}", pair(whole), pair(part));
         }
     });
+    println!();
+}
+
+fn print_by_filling(rounds: usize, differences: &mut Vec<String>) {
+    growth_headings("nodes", ["filling a fresh arena", "an add of it"]);
+    tables::by_filling(rounds, &mut |nodes, adds, measured| {
+        let what = format!("filling {nodes} nodes");
+        if let Some(whole) = times(&what, measured, differences) {
+            println!("{nodes:<9}{}{}", pair(whole), pair(whole.shared_by(adds)));
+        }
+    });
+}
+
+/// The two lines above a table with two pairs of times.
+fn growth_headings(by: &str, [left, right]: [&str; 2]) {
+    println!("{:<9}{left:>30}{right:>30}", "");
+    let columns = ["proved (ns)", "Rust (ns)", "proved (ns)", "Rust (ns)"];
+    println!("{by:<9}{}", headings(&columns));
 }
 
 fn headings(columns: &[&str]) -> String {

@@ -116,6 +116,7 @@ impl Desk {
                 self.keys.lend(&background[..room]);
                 library.snapshot(self.arena.words(), self.keys.words_mut())
             }
+            Request::FindFree => library.find_free(self.arena.words()),
             Request::Run {
                 workers,
                 nodes,

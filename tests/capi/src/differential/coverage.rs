@@ -24,16 +24,17 @@ impl Column {
 }
 
 /// The refusals of each entry point, in document 01's order.
-const REFUSALS: [(EntryPoint, &str, &[u64]); 5] = [
+const REFUSALS: [(EntryPoint, &str, &[u64]); 6] = [
     (EntryPoint::Init, "init", &[10, 1]),
     (EntryPoint::Start, "start", &[1, 2, 3, 6, 4, 5]),
     (EntryPoint::Turn, "turn", &[1, 2, 3, 6, 7]),
     (EntryPoint::Snapshot, "snapshot", &[1, 2, 7, 8]),
+    (EntryPoint::FindFree, "find_free", &[1, 2]),
     (EntryPoint::Run, "run", &[10, 9, 1, 8]),
 ];
 const ACCEPTED: u64 = 0;
 /// What may be met where neither layout is named.
-const WITHOUT_LAYOUT: [(EntryPoint, u64); 7] = [
+const WITHOUT_LAYOUT: [(EntryPoint, u64); 9] = [
     (EntryPoint::Init, 10),
     (EntryPoint::Start, 1),
     (EntryPoint::Start, 2),
@@ -41,6 +42,8 @@ const WITHOUT_LAYOUT: [(EntryPoint, u64); 7] = [
     (EntryPoint::Turn, 2),
     (EntryPoint::Snapshot, 1),
     (EntryPoint::Snapshot, 2),
+    (EntryPoint::FindFree, 1),
+    (EntryPoint::FindFree, 2),
 ];
 
 /// What no arena reached from a fresh one may meet. Document 01 says it of turns; for start and
@@ -99,7 +102,7 @@ const NO_MOVES: [(usize, usize); 6] = [
 #[derive(Default)]
 pub struct Coverage {
     /// By entry point and refusal, 0 for accepted.
-    replies: [[Counts; 11]; 5],
+    replies: [[Counts; 11]; REFUSALS.len()],
     /// By stage before the turn and report.
     turns: [[Counts; 30]; 26],
     /// Replies that cannot even be counted above.
@@ -108,6 +111,8 @@ pub struct Coverage {
     stray: u64,
     /// Accepted snapshots, on any arena, that list other keys than the set's.
     not_the_set: u64,
+    /// Searches that answer otherwise than what the roots lead to.
+    not_by_roots: u64,
 }
 
 impl Coverage {
@@ -140,17 +145,23 @@ impl Coverage {
         self.not_the_set += u64::from(!is_the_set);
     }
 
+    /// Notes an accepted search.
+    pub fn note_search(&mut self, is_by_roots: bool) {
+        self.not_by_roots += u64::from(!is_by_roots);
+    }
+
     pub fn merge(&mut self, other: &Coverage) {
         let mine = self.replies.iter_mut().flatten().flatten();
         let mine = mine.chain(self.turns.iter_mut().flatten().flatten());
-        let counts = [&mut self.unknown, &mut self.stray, &mut self.not_the_set];
-        let mine = mine.chain(counts);
         let theirs = other.replies.iter().flatten().flatten();
         let theirs = theirs.chain(other.turns.iter().flatten().flatten());
-        let theirs = theirs.chain([&other.unknown, &other.stray, &other.not_the_set]);
         for (sum, more) in mine.zip(theirs) {
             *sum += more;
         }
+        self.unknown += other.unknown;
+        self.stray += other.stray;
+        self.not_the_set += other.not_the_set;
+        self.not_by_roots += other.not_by_roots;
     }
 
     /// Prints the tables and gives for each line whether it is as it must be.
@@ -164,6 +175,7 @@ impl Coverage {
             (self.unknown, "replies of no known form"),
             (self.stray, "waits from fresh for no other busy worker"),
             (self.not_the_set, "snapshots that do not list the set"),
+            (self.not_by_roots, "searches that do not go by the roots"),
         ] {
             good.push(count == 0);
             if count != 0 {

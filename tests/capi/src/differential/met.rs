@@ -9,6 +9,7 @@ use model::run::{ENTRY_WORDS, MAX_SCHEDULE_WORDS};
 use super::comparer::Written;
 use super::met_lengths;
 use super::met_rolls;
+use super::met_searches;
 use super::requests::Request;
 use super::schedules::needed;
 use crate::library::{self, Values, CALL_WORDS, WAIT_WORDS};
@@ -244,6 +245,7 @@ impl Met {
             count != 0
         };
         let all = ALL.into_iter().chain(met_lengths::ALL);
-        all.chain(met_rolls::ALL).map(line).collect()
+        let all = all.chain(met_rolls::ALL).chain(met_searches::ALL);
+        all.map(line).collect()
     }
 }

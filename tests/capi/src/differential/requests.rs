@@ -16,6 +16,7 @@ pub enum EntryPoint {
     Start,
     Turn,
     Snapshot,
+    FindFree,
     Run,
 }
 
@@ -36,6 +37,7 @@ pub enum Request {
     Snapshot {
         room: usize,
     },
+    FindFree,
     /// With so many words for the history and for the waits.
     Run {
         workers: u16,
@@ -53,6 +55,7 @@ impl Request {
             Request::Start { .. } => EntryPoint::Start,
             Request::Turn { .. } => EntryPoint::Turn,
             Request::Snapshot { .. } => EntryPoint::Snapshot,
+            Request::FindFree => EntryPoint::FindFree,
             Request::Run { .. } => EntryPoint::Run,
         }
     }
@@ -77,6 +80,7 @@ impl fmt::Display for Request {
             }
             Request::Turn { worker } => write!(out, "turn worker {worker}"),
             Request::Snapshot { room } => write!(out, "snapshot into {room} words"),
+            Request::FindFree => write!(out, "find_free"),
             Request::Run {
                 workers,
                 nodes,

@@ -4,6 +4,7 @@
 use super::wrong_lengths::*;
 use super::wrong_others::*;
 use super::wrong_runs::*;
+use super::wrong_searches::*;
 use super::wrong_turns::*;
 use super::Comparison;
 use crate::library::{Library, Model, Run, Start};
@@ -21,6 +22,7 @@ struct Wrong {
     start: fn(&mut [u16], u16, Start) -> u64,
     turn: fn(&mut [u16], u16) -> u64,
     snapshot: fn(&[u16], &mut [u16]) -> u64,
+    find_free: fn(&[u16]) -> u64,
     run: fn(Run) -> u64,
 }
 
@@ -30,6 +32,7 @@ const RIGHT: Wrong = Wrong {
     start: |arena, worker, call| Model.start(arena, worker, call),
     turn: |arena, worker| Model.turn(arena, worker),
     snapshot: |arena, keys| Model.snapshot(arena, keys),
+    find_free: |arena| Model.find_free(arena),
     run: |run| Model.run(run),
 };
 
@@ -65,11 +68,19 @@ const fn wrong_snapshot(name: &'static str, snapshot: fn(&[u16], &mut [u16]) -> 
     }
 }
 
+const fn wrong_search(name: &'static str, find_free: fn(&[u16]) -> u64) -> Wrong {
+    Wrong {
+        name,
+        find_free,
+        ..RIGHT
+    }
+}
+
 const fn wrong_run(name: &'static str, run: fn(Run) -> u64) -> Wrong {
     Wrong { name, run, ..RIGHT }
 }
 
-const WRONG: [Wrong; 82] = [
+const WRONG: [Wrong; 116] = [
     wrong_init("init writes a word past the total", init_past_total),
     wrong_init("init wants layout 2's words for both", init_more_words),
     wrong_init("init writes the other's total", init_other_total),
@@ -133,6 +144,43 @@ const WRONG: [Wrong; 82] = [
     wrong_snapshot("snapshot counts all nodes", snapshot_counts_all),
     wrong_snapshot("snapshot leaves a marked key behind", snapshot_past_listed),
     wrong_snapshot("snapshot looks at Head's mark", snapshot_head_mark),
+    wrong_search("find_free swaps node and count", free_swapped),
+    wrong_search("find_free has a report", free_reports),
+    wrong_search("find_free: none is N", free_none_is_n),
+    wrong_search("find_free takes the highest", free_highest),
+    wrong_search("find_free tells no count", free_no_count),
+    wrong_search("find_free counts 0 if none is free", free_full_unread),
+    wrong_search("find_free counts all nodes", free_counts_all),
+    wrong_search("find_free counts those below its answer", free_counts_below),
+    wrong_search("find_free counts its answer too", free_counts_answer),
+    wrong_search("find_free does not count Head", free_forgets_head),
+    wrong_search("find_free does not count a walk's last", free_forgets_last),
+    wrong_search("find_free does not count Tail as a root", free_forgets_tail),
+    wrong_search("find_free reads where walks join", free_reads_joins),
+    wrong_search("find_free marks anew for each root", free_reads_again),
+    wrong_search("find_free counts a link of N or more", free_counts_links),
+    wrong_search("find_free counts a root of N or more", free_counts_roots),
+    wrong_search("find_free does not count workers' nodes", free_counts_chain),
+    wrong_search("find_free: Tail is no root", free_without_tail),
+    wrong_search("find_free: pred is no root", free_without_pred),
+    wrong_search("find_free: curr is no root", free_without_curr),
+    wrong_search("find_free: spare is no root", free_without_spare),
+    wrong_search("find_free: no roots of idle workers", free_without_idle),
+    wrong_search("find_free leaves the last worker out", free_without_last),
+    wrong_search("find_free ends at Tail", free_ends_at_tail),
+    wrong_search("find_free ends at a marked node", free_ends_at_mark),
+    wrong_search("find_free: free is where nobody stands", free_nobody_there),
+    wrong_search("find_free follows 1,000 links only", free_few_links),
+    wrong_search("find_free: four words to a node", free_narrow),
+    wrong_search("find_free: node N less 1 is not there", free_last_node),
+    wrong_search("find_free swaps 1 and 2", free_refusals_swapped),
+    wrong_search(
+        "find_free: odd header before short arena",
+        free_header_first,
+    ),
+    wrong_search("find_free wants no words past the total", free_whole_arena),
+    wrong_search("find_free refuses a stage above 25", free_refuses_stage),
+    wrong_search("find_free refuses a broken link", free_refuses_link),
     wrong_run("run swaps waits and calls", run_swaps_totals),
     wrong_run("run dates a no by its last reading", run_late_no),
     wrong_run("run names the call after a wait's", run_next_call),
@@ -155,7 +203,11 @@ const WRONG: [Wrong; 82] = [
 ];
 
 /// Without a fault, so that the others are told for theirs and not for what they are made of.
-const FAULTLESS: [Wrong; 2] = [RIGHT, wrong_snapshot("snapshot's own walk", snapshot_walks)];
+const FAULTLESS: [Wrong; 3] = [
+    RIGHT,
+    wrong_snapshot("snapshot's own walk", snapshot_walks),
+    wrong_search("find_free's own walks", free_walks),
+];
 
 impl Library for Wrong {
     fn init(&self, arena: &mut [u16], layout: u16, workers: u16, nodes: u16) -> u64 {
@@ -172,6 +224,10 @@ impl Library for Wrong {
 
     fn snapshot(&self, arena: &[u16], keys: &mut [u16]) -> u64 {
         (self.snapshot)(arena, keys)
+    }
+
+    fn find_free(&self, arena: &[u16]) -> u64 {
+        (self.find_free)(arena)
     }
 
     fn run(&self, run: Run) -> u64 {

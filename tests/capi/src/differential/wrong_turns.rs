@@ -2,6 +2,7 @@
 
 use model::arena::*;
 
+use super::roots::worker_roots;
 use crate::library::{Library, Model, Values, IDLE, MOVED, WAITS};
 
 const IDLE_REPLY: u64 = reply(IDLE, 0, 0);
@@ -46,17 +47,22 @@ pub fn then(
     }
 }
 
-pub fn turn_header_first(arena: &mut [u16], worker: u16) -> u64 {
-    let reply = Model.turn(arena, worker);
+/// A reply where 2 comes before 1.
+pub fn header_first(arena: &[u16], right: u64) -> u64 {
     let fits = |arena: &[u16]| {
         let shape = Shape::new(arena[0], arena[1], arena[2]);
         shape.is_some_and(|shape| arena[..HEADER_WORDS] == shape.header())
     };
-    if reply == u64::from(SHORT_ARENA) && arena.len() >= HEADER_WORDS && !fits(arena) {
+    if right == u64::from(SHORT_ARENA) && arena.len() >= HEADER_WORDS && !fits(arena) {
         u64::from(ODD_HEADER)
     } else {
-        reply
+        right
     }
+}
+
+pub fn turn_header_first(arena: &mut [u16], worker: u16) -> u64 {
+    let reply = Model.turn(arena, worker);
+    header_first(arena, reply)
 }
 
 pub fn turn_seven_words(arena: &mut [u16], worker: u16) -> u64 {
@@ -199,15 +205,13 @@ pub fn turn_known_worker(arena: &mut [u16], worker: u16) -> u64 {
     })
 }
 
-/// Nodes that a search starts from: Head, Tail, and where workers stand.
-fn worker_roots(arena: &[u16], shape: Shape) -> Vec<u16> {
-    let records = (0..shape.workers).map(|worker| shape.worker_at(worker));
-    let roots = records.flat_map(|at| arena[at + PRED..=at + SPARE].to_vec());
-    roots.collect()
+/// Nodes that a search starts from besides Head and Tail: where workers stand.
+fn stood_on(arena: &[u16], shape: Shape) -> Vec<u16> {
+    worker_roots(arena, shape).map(|root| root.node).collect()
 }
 
 /// Which nodes are not free, following at most so many links from each root.
-fn reached(arena: &[u16], shape: Shape, roots: &[u16], most_links: usize) -> Vec<bool> {
+pub fn reached(arena: &[u16], shape: Shape, roots: &[u16], most_links: usize) -> Vec<bool> {
     let mut reached = vec![false; shape.nodes as usize];
     for &root in roots {
         let mut node = root;
@@ -245,8 +249,8 @@ fn search_by(
     })
 }
 
-fn all_roots(arena: &[u16], shape: Shape) -> Vec<u16> {
-    [vec![HEAD, TAIL], worker_roots(arena, shape)].concat()
+pub fn all_roots(arena: &[u16], shape: Shape) -> Vec<u16> {
+    [vec![HEAD, TAIL], stood_on(arena, shape)].concat()
 }
 
 pub fn turn_highest(arena: &mut [u16], worker: u16) -> u64 {
@@ -260,8 +264,7 @@ pub fn turn_highest(arena: &mut [u16], worker: u16) -> u64 {
 pub fn turn_nobody_there(arena: &mut [u16], worker: u16) -> u64 {
     search_by(arena, worker, |arena, shape| {
         let on_chain = reached(arena, shape, &[HEAD, TAIL], MAX_NODES as usize);
-        let roots = worker_roots(arena, shape);
-        let stood_on = reached(arena, shape, &roots, 0);
+        let stood_on = reached(arena, shape, &stood_on(arena, shape), 0);
         let mut both = on_chain.iter().zip(&stood_on);
         both.position(|(&on_chain, &stood_on)| !on_chain && !stood_on)
     })
@@ -269,7 +272,7 @@ pub fn turn_nobody_there(arena: &mut [u16], worker: u16) -> u64 {
 
 pub fn turn_without_tail(arena: &mut [u16], worker: u16) -> u64 {
     search_by(arena, worker, |arena, shape| {
-        let roots = [vec![HEAD], worker_roots(arena, shape)].concat();
+        let roots = [vec![HEAD], stood_on(arena, shape)].concat();
         let mut taken = reached(arena, shape, &roots, MAX_NODES as usize);
         taken[TAIL as usize] = true;
         taken.iter().position(|&taken| !taken)
