@@ -63,12 +63,13 @@ fn row(what: &'static str, operation: Operation, work: &impl Workload, rounds: u
     }
 }
 
-/// A turn that is not at stage 14, and one at stage 14 with a full chain, by the number of nodes.
-pub fn by_nodes(rounds: usize, show: &mut dyn FnMut(u16, [Measured; 2])) {
+/// A turn that is not at stage 14, one at stage 14 with a full chain, and one that takes a node
+/// where half of them are used, by the number of nodes.
+pub fn by_nodes(rounds: usize, show: &mut dyn FnMut(u16, [Measured; 3])) {
     for nodes in NODE_COUNTS {
         let ordinary = measure(&inputs::ordinary_turns(nodes), rounds);
-        let search = measure(&inputs::stage_14(nodes, nodes - 2), rounds);
-        show(nodes, [ordinary, search]);
+        let search = |keys| measure(&inputs::stage_14(nodes, keys), rounds);
+        show(nodes, [ordinary, search(nodes - 2), search(nodes / 2 - 1)]);
     }
 }
 

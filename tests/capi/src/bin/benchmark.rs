@@ -78,20 +78,22 @@ fn figure(what: &str, operation: &Operation, whole: Times) -> Option<String> {
 }
 
 fn print_by_nodes(rounds: usize, differences: &mut Vec<String>) {
-    growth_headings("nodes", ["ordinary turn", "stage 14, full chain"]);
-    tables::by_nodes(rounds, &mut |nodes, [ordinary, search]| {
-        let what = format!("{nodes} nodes");
-        let ordinary = times(&format!("ordinary turn, {what}"), ordinary, differences);
-        let search = times(&format!("stage 14, {what}"), search, differences);
-        if let (Some(ordinary), Some(search)) = (ordinary, search) {
-            println!("{nodes:<9}{}{}", pair(ordinary), pair(search));
+    let kinds = ["ordinary turn", "stage 14, full", "stage 14, half full"];
+    growth_headings("nodes", &kinds);
+    tables::by_nodes(rounds, &mut |nodes, measured| {
+        print!("{nodes:<9}");
+        for (kind, measured) in kinds.iter().zip(measured) {
+            if let Some(times) = times(&format!("{kind}, {nodes} nodes"), measured, differences) {
+                print!("{}", pair(times));
+            }
         }
+        println!();
     });
     println!();
 }
 
 fn print_by_entries(rounds: usize, differences: &mut Vec<String>) {
-    growth_headings("entries", ["a whole run", "an entry of it"]);
+    growth_headings("entries", &["a whole run", "an entry of it"]);
     tables::by_entries(rounds, &mut |entries, measured| {
         let what = format!("run of {entries} entries");
         if let Some(whole) = times(&what, measured, differences) {
@@ -103,7 +105,7 @@ fn print_by_entries(rounds: usize, differences: &mut Vec<String>) {
 }
 
 fn print_by_filling(rounds: usize, differences: &mut Vec<String>) {
-    growth_headings("nodes", ["filling a fresh arena", "an add of it"]);
+    growth_headings("nodes", &["filling a fresh arena", "an add of it"]);
     tables::by_filling(rounds, &mut |nodes, adds, measured| {
         let what = format!("filling {nodes} nodes");
         if let Some(whole) = times(&what, measured, differences) {
@@ -112,11 +114,14 @@ fn print_by_filling(rounds: usize, differences: &mut Vec<String>) {
     });
 }
 
-/// The two lines above a table with two pairs of times.
-fn growth_headings(by: &str, [left, right]: [&str; 2]) {
-    println!("{:<9}{left:>30}{right:>30}", "");
-    let columns = ["proved (ns)", "Rust (ns)", "proved (ns)", "Rust (ns)"];
-    println!("{by:<9}{}", headings(&columns));
+/// The two lines above a table with a pair of times of each kind.
+fn growth_headings(by: &str, kinds: &[&str]) {
+    let above: String = kinds.iter().map(|kind| format!("{kind:>30}")).collect();
+    println!("{:<9}{above}", "");
+    println!(
+        "{by:<9}{}",
+        headings(&["proved (ns)", "Rust (ns)"]).repeat(kinds.len())
+    );
 }
 
 fn headings(columns: &[&str]) -> String {
