@@ -58,7 +58,7 @@ pub extern "C" fn lazy_list_find_free(arena: &[u16]) -> u64
     number::of_search(lazy::find_free(arena))
 }
 
-// The keys on the chain, in chain order.
+// The keys of the set, rising.
 #[no_mangle]
 pub extern "C" fn lazy_list_snapshot(arena: &[u16], keys: &mut [u16]) -> u64
     ensures number { λ r. ⌜ r ≡ replyNumber (unreported (snapshotAnswer (now (arena .entry)) (length (now (keys .entry))))) ⌝ }
