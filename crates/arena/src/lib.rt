@@ -1,4 +1,6 @@
 // What may be called on an arena (document 01: board) as a whole: lay a fresh one, start a call on a worker, list its set.
+#![tactic(auto)]
+
 ghost use Rattle.std.specs.Prelude.{◌≡◌, [], length};
 ghost use Rattle.words.specs.Replies.{verdict_reply, replied};
 ghost use Rattle.arena.specs.Init.{init_answer, init_arena};
@@ -12,7 +14,7 @@ mod chain;
 mod fresh;
 
 // What a snapshot answers: the count of the keys, or a refusal.
-#[derive(Drop)]
+#[derive(Clone, Copy)]
 pub enum Listing {
     Keys(u16),
     Refused(u16),

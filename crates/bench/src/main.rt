@@ -1,4 +1,5 @@
 // The bench program: a schedule from standard input, its history to standard output.
+#![tactic(auto)]
 
 fn main() {
     // one byte more than an input may have, so that a longer one is seen

@@ -1,4 +1,6 @@
 // The bench program's input: what a text says, line by line.
+#![tactic(auto)]
+
 pub mod bytes;
 mod input;
 mod lines;
@@ -7,7 +9,7 @@ pub mod numbers;
 pub use input::{ENTRY_WIDTH, parse};
 
 // What a good input says: document 01's W and N, and how many entries its schedule has.
-#[derive(Drop)]
+#[derive(Clone, Copy)]
 pub struct Plan {
     pub workers: u16,
     pub nodes: u16,
@@ -15,7 +17,7 @@ pub struct Plan {
 }
 
 // What an input gives: a plan, or the number of its first bad line, counted from 1; 0 stands for too many bytes.
-#[derive(Drop)]
+#[derive(Clone, Copy)]
 pub enum Parsed {
     Planned(Plan),
     BadLine(u16),

@@ -8,7 +8,7 @@ use crate::numbers::{Number, number_of};
 use worker::Worker;
 
 // What a line says: the counts of line 1, or so many equal entries of the schedule.
-#[derive(Drop)]
+#[derive(Clone, Copy)]
 pub(crate) enum Line {
     Board(u16, u16),
     Entries {

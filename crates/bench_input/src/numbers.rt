@@ -3,7 +3,7 @@ ghost use Rattle.std.specs.Prelude.{◌≡◌};
 ghost use Rattle.bench_input.specs.Numbers.{is_digit, well_begun, digits_value, number_of, number_said};
 
 // What a text is, read as a number.
-#[derive(Drop)]
+#[derive(Clone, Copy)]
 pub(crate) enum Number {
     Value(u16),
     NoNumber,

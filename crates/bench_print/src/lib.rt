@@ -1,5 +1,7 @@
 // What the bench program prints. Each function writes a text into a lent output from a place on, and answers the place behind it.
 // Past the output's end nothing is written, and the place stays at the end.
+#![tactic(auto)]
+
 ghost use Rattle.std.specs.Prelude.{[], ◌∷◌, ◌++◌, ◌<◌, take};
 ghost use Rattle.bench_print.specs.Print.{Printed, digit_at, decimal, labelled};
 ghost use Rattle.bench_print.specs.Print.{bad_line_text, refused_text, totals_text};

@@ -1,4 +1,6 @@
 // What the bench program prints for an input: the input is parsed, its schedule is run, and the history is printed.
+#![tactic(auto)]
+
 ghost use mathlib.Core.List.{map, flatten};
 ghost use Rattle.std.specs.Prelude.{◌≤◌, take, replicate};
 ghost use Rattle.arena.specs.Snapshot.{keys_of, Listed};

@@ -1,4 +1,6 @@
 // The C interface: every entry point over lent 16-bit words, with its reply in one number. include/lazy_list.h declares it.
+#![tactic(auto)]
+
 ghost use Rattle.std.specs.Prelude.{◌≡◌, ◌/◌, length};
 ghost use Rattle.words.specs.Layout.{layout2};
 ghost use Rattle.arena.specs.Init.{fresh_words, init_answer, init_arena};

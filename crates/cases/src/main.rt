@@ -1,5 +1,7 @@
 // Runs what the starred cases leave out: on layout 1 the limits of the counts, damaged headers, records and chains, a turn at each stage,
 // and nodes used again; on layout 2 lengths. What it prints is held to the stored output, which was worked out from documents 01 and 02.
+#![tactic(auto)]
+
 mod circles;
 mod damage;
 mod labels;

@@ -1,4 +1,6 @@
 // A run of a schedule with document 01's history: rows of call records and of waits that the caller lends.
+#![tactic(auto)]
+
 ghost use Rattle.std.specs.Prelude.{◌≡◌, min, ◌≤◌, length, replicate};
 ghost use Rattle.schedule.specs.Run.{summary_reply, run_answer, run_arena, run_records, run_waits, DoneLinearizable};
 ghost use Rattle.schedule.specs.Book.{call_in, wait_in};
@@ -127,7 +129,7 @@ pub fn run(
 }
 
 // A run's rows, and what the run answers.
-#[derive(Drop)]
+#[derive(Clone, Copy)]
 pub struct Ran {
     pub row: [Call; 1000],
     pub waits: [Wait; 4000],

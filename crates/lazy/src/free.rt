@@ -13,7 +13,7 @@ use words::layout;
 use worker::{Free, Node};
 
 // A link that was read: where it leads, and how many were read so far.
-#[derive(Drop)]
+#[derive(Clone, Copy)]
 struct Link {
     next: u16,
     reads: u16,

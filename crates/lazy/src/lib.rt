@@ -1,4 +1,6 @@
 // The lazy list on an arena: a worker's turn, and the search for a free node.
+#![tactic(auto)]
+
 ghost use Rattle.std.specs.Prelude.{◌≡◌, []};
 ghost use Rattle.words.specs.Layout.{node_part};
 ghost use Rattle.words.specs.Records.{node_at};
@@ -14,21 +16,21 @@ use worker::{Effect, Free, Node, Report, Seen, Turned, Worker, refusal};
 mod free;
 
 // What a turn answers.
-#[derive(Drop)]
+#[derive(Clone, Copy)]
 pub enum Outcome {
     Reported(Report),
     Refused(u16),
 }
 
 // What the search for a free node comes to: the node, or that there is none; and how many next words it read.
-#[derive(Drop)]
+#[derive(Clone, Copy)]
 pub struct Found {
     pub free: Free,
     pub reads: u16,
 }
 
 // What find_free answers.
-#[derive(Drop)]
+#[derive(Clone, Copy)]
 pub enum Search {
     Done(Found),
     Refused(u16),

@@ -6,7 +6,7 @@ ghost use Rattle.schedule.specs.Book.{new_book, with_start, with_refusal, with_w
 use words::records;
 use worker::Worker;
 
-#[derive(Drop)]
+#[derive(Clone, Copy)]
 pub(crate) struct Book {
     pub(crate) calls: u16,
     pub(crate) refused: u16,

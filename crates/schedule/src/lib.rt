@@ -1,4 +1,6 @@
 // The run of a schedule on plain numbers: an arena, the history and the waits in lent words, seven to a call and four to a wait.
+#![tactic(auto)]
+
 ghost use Rattle.std.specs.Prelude.{◌≡◌, true, ◌*◌, ◌/◌, ◌%◌, ◌≤◌, length};
 ghost use Rattle.words.specs.Layout.{layout2, good_counts, total};
 ghost use Rattle.arena.specs.Init.{fresh_words};
@@ -19,7 +21,7 @@ mod verdict;
 pub mod waits;
 
 // A call's record in a history; 0 stands for a point or finish not reached, and for the answer of a call without a point.
-#[derive(Drop)]
+#[derive(Clone, Copy)]
 pub struct Call {
     pub worker: u16,
     pub operation: u16,
@@ -31,7 +33,7 @@ pub struct Call {
 }
 
 // A wait: the number of the call whose turn it was, counted from 0, its time, the node wanted, and the worker in the way.
-#[derive(Drop)]
+#[derive(Clone, Copy)]
 pub struct Wait {
     pub call: u16,
     pub time: u16,
@@ -39,7 +41,7 @@ pub struct Wait {
     pub worker: u16,
 }
 
-#[derive(Drop)]
+#[derive(Clone, Copy)]
 pub struct Totals {
     pub entries: u16,
     pub refused: u16,
@@ -48,7 +50,7 @@ pub struct Totals {
 }
 
 // What a run answers.
-#[derive(Drop)]
+#[derive(Clone, Copy)]
 pub enum Summary {
     Done(Totals),
     Refused(u16),

@@ -1,5 +1,7 @@
 // The words of an arena (document 01: board): read and written whatever the place, since past the end a read gives 0 and a write does
 // nothing. `layout` says where the records stand, `records` reads and writes them, and `header` tests the header.
+#![tactic(auto)]
+
 ghost use Rattle.std.specs.Prelude.{◌≡◌, length, replicate, set};
 ghost use Rattle.std.proofs.lemmas.List.Edits.{sets};
 ghost use Rattle.words.specs.Layout.{word};
@@ -12,7 +14,7 @@ pub mod records;
 pub use header::header_verdict;
 
 // What a call that only may be refused answers.
-#[derive(Drop)]
+#[derive(Clone, Copy)]
 pub enum Verdict {
     Accepted,
     Refused(u16),

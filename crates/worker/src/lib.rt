@@ -1,4 +1,6 @@
 // A worker of the lazy list as a value: the records of nodes and workers, and a worker's turn. Nothing here knows of an arena's words.
+#![tactic(auto)]
+
 ghost use Rattle.std.specs.Prelude.{◌≡◌};
 ghost use Rattle.worker.specs.Node.{new_node, head_node, tail_node, unused_node};
 ghost use Rattle.worker.specs.Worker.{within, is_key, is_length, carries, is_call, new_worker, idle_worker, first_stage, started_worker};
@@ -11,7 +13,7 @@ mod turn;
 pub use report::{Answer, Effect, Free, Report, Seen, Step, Turned};
 
 // Document 01's node record, and document 02's length.
-#[derive(Drop)]
+#[derive(Clone, Copy)]
 pub struct Node {
     pub key: u16,
     pub next: u16,
@@ -69,7 +71,7 @@ impl Node {
 }
 
 // Document 01's worker record, and document 02's length.
-#[derive(Drop)]
+#[derive(Clone, Copy)]
 pub struct Worker {
     pub stage: u16,
     pub operation: u16,

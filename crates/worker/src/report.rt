@@ -5,7 +5,7 @@ ghost use Rattle.worker.specs.Report.{numbered_answer};
 use crate::{Node, Worker};
 
 // What a search for a free node finds: its number, or that there is none.
-#[derive(Drop)]
+#[derive(Clone, Copy)]
 pub enum Free {
     Node(u16),
     None,
@@ -13,7 +13,7 @@ pub enum Free {
 
 // What a turn sees besides the worker's own record: how many nodes there are, the nodes that pred and curr name, and, at the stage
 // that takes one, a free node.
-#[derive(Drop)]
+#[derive(Clone, Copy)]
 pub struct Seen {
     pub count: u16,
     pub pred: Node,
@@ -22,7 +22,7 @@ pub struct Seen {
 }
 
 // What a call answers.
-#[derive(Drop)]
+#[derive(Clone, Copy)]
 pub enum Answer {
     Yes,
     No,
@@ -30,7 +30,7 @@ pub enum Answer {
 }
 
 // What a turn reports: the stage it moved to; the node it waits for and the worker that owns it; the answer it finished with.
-#[derive(Drop)]
+#[derive(Clone, Copy)]
 pub enum Report {
     Idle,
     Moved(u16),
@@ -39,7 +39,7 @@ pub enum Report {
 }
 
 // The one thing that a turn does to the nodes.
-#[derive(Drop)]
+#[derive(Clone, Copy)]
 pub enum Effect {
     Nothing,
     // of a node: its owner
@@ -53,7 +53,7 @@ pub enum Effect {
 }
 
 // An accepted turn.
-#[derive(Drop)]
+#[derive(Clone, Copy)]
 pub struct Step {
     pub worker: Worker,
     pub report: Report,
@@ -61,7 +61,7 @@ pub struct Step {
 }
 
 // A turn: done, or refused with a number.
-#[derive(Drop)]
+#[derive(Clone, Copy)]
 pub enum Turned {
     Done(Step),
     Refused(u16),

@@ -7,6 +7,7 @@ use crate::{Node, Worker};
 
 impl Worker {
     // One turn at the record's stage; a stage above the last is refused before.
+    #[tactic(auto, unfolding(crate::specs::Stages::step_of))]
     pub(crate) fn step(self, owner: u16, seen: Seen) -> Step
         ensures { result ≡ step_of self owner seen }
     {

@@ -8,6 +8,7 @@ use crate::{Worker, is_key, is_within, refusal};
 impl Worker {
     // One turn: the next worker, the report, and the one effect on the nodes. `owner` is the worker's owner word. An idle turn is
     // reported here, so that `step` has one caller and is compiled into it.
+    #[tactic(auto, unfolding(crate::specs::Turn::turn_of, crate::specs::Turn::turn_refusals, crate::specs::Turn::busy_refusals, crate::specs::Stages::step_of))]
     pub fn turn(self, owner: u16, seen: Seen) -> Turned
         ensures { result ≡ turn_of self owner seen }
     {
@@ -19,6 +20,7 @@ impl Worker {
         }
     }
 
+    #[tactic(auto, unfolding(crate::specs::Turn::turn_of, crate::specs::Turn::turn_refusals, crate::specs::Turn::busy_refusals))]
     fn busy_turn(self, owner: u16, seen: Seen) -> Turned
         requires le_stage { 1 ≤ self.stage }
         requires stage_bound { self.stage ≤ 25 }
@@ -40,6 +42,7 @@ impl Worker {
     }
 
     // The key and, where the stage keeps one, the answer.
+    #[tactic(auto, unfolding(crate::specs::Turn::kept))]
     fn is_kept(self) -> bool
         ensures { result ≡ kept self }
     {
@@ -47,6 +50,7 @@ impl Worker {
     }
 
     // The node numbers that the stage reads; all stages that are not named read curr alone.
+    #[tactic(auto, unfolding(crate::specs::Turn::placed))]
     fn is_placed(self, nodes: u16) -> bool
         requires le_stage { 1 ≤ self.stage }
         requires stage_bound { self.stage ≤ 25 }
@@ -67,6 +71,7 @@ impl Worker {
     }
 
     // A link that the stage follows leads past the nodes.
+    #[tactic(auto, unfolding(crate::specs::Turn::astray))]
     fn is_astray(self, seen: Seen) -> bool
         ensures { result ≡ astray self seen }
     {
@@ -79,6 +84,7 @@ impl Worker {
     }
 }
 
+#[tactic(auto, unfolding(crate::specs::Turn::belongs))]
 fn operation_belongs(stage: u16, operation: u16) -> bool
     ensures { result ≡ belongs stage operation }
 {
