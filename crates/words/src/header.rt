@@ -6,6 +6,7 @@ ghost use Rattle.words.specs.Header.{is_header, header_refusals};
 use crate::{Verdict, agree, layout, word};
 use worker::refusal;
 
+#[tactic(auto, unfolding(crate::specs::Header::header_refusals))]
 pub fn header_verdict(arena: &[u16]) -> Verdict
     ensures { verdict_reply result ≡ replied (header_refusals arena.now) [] }
 {
@@ -21,6 +22,7 @@ pub fn header_verdict(arena: &[u16]) -> Verdict
 }
 
 // The first words are the header that their own counts give.
+#[tactic(auto, unfolding(crate::specs::Header::is_header))]
 fn is_header(arena: &[u16]) -> bool
     ensures { result ≡ is_header arena.now }
 {

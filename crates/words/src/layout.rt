@@ -54,6 +54,7 @@ pub const NODE_LENGTH: u16 = 4;
 
 // Words of a node record: 4 in layout 1, 5 in layout 2, and 0 where there is no such layout. By a sum, since the compiler drops the test
 // where the layout is known to be one.
+#[tactic(auto, unfolding(crate::specs::Layout::node_width))]
 pub fn node_width(layout: u16) -> u16
     ensures { result ≡ node_width layout }
 {
@@ -108,6 +109,7 @@ pub fn good_counts(layout: u16, workers: u16, nodes: u16) -> bool
 }
 
 // The header of an arena with these counts. Where they are good, its numbers are words.
+#[tactic(auto, unfolding(crate::specs::Layout::header_words))]
 pub fn header_words(layout: u16, workers: u16, nodes: u16) -> [u16; 8]
     ensures { good_counts layout workers nodes ≡ true → result ≡ header_words layout workers nodes }
 {

@@ -29,6 +29,7 @@ pub fn worker_field(arena: &[u16], number: u16, field: u16) -> u16
     word(arena, layout::worker_from(number) + (field as usize))
 }
 
+#[tactic(auto, unfolding(crate::specs::Records::worker_at))]
 pub fn read_worker(arena: &[u16], number: u16) -> Worker
     ensures { result ≡ worker_at arena.now number }
 {
@@ -44,6 +45,7 @@ pub fn read_worker(arena: &[u16], number: u16) -> Worker
     }
 }
 
+#[tactic(auto, unfolding(crate::specs::Records::with_worker))]
 pub fn write_worker(arena: &mut [u16], number: u16, worker: Worker)
     ensures { arena.new ≡ with_worker arena.old number worker }
 {
@@ -52,6 +54,7 @@ pub fn write_worker(arena: &mut [u16], number: u16, worker: Worker)
 }
 
 // Where a field of a node stands in an arena.
+#[tactic(auto, unfolding(crate::specs::Layout::node_from))]
 pub fn node_from(arena: &[u16], node: u16, field: u16) -> usize
     ensures { result ≡ node_from arena.now node field }
 {
@@ -68,6 +71,7 @@ pub fn write_node_field(arena: &mut [u16], node: u16, field: u16, value: u16)
 }
 
 // A node in an arena: as many of its fields as there are words for them.
+#[tactic(auto, unfolding(crate::specs::Records::with_node))]
 pub fn write_node(arena: &mut [u16], number: u16, node: Node)
     ensures { arena.new ≡ with_node arena.old number node }
 {
@@ -85,6 +89,7 @@ pub fn node_field(nodes: &[u16], width: u16, node: u16, field: u16) -> u16
 }
 
 // A node but for its length. One test serves a node that lies inside whole.
+#[tactic(auto, unfolding(crate::specs::Records::node_at))]
 pub fn read_node(nodes: &[u16], width: u16, node: u16) -> Node
     ensures { result ≡ without_length (node_at width nodes.now node) }
 {

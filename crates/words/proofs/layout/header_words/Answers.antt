@@ -2,22 +2,16 @@
 use Prim.Native.Nat.{◌%◌}
 use mathlib.Core.Path.{◌≡◌}
 use native.Mathlib.Omega.{arith}
-use borrow.Author.Rules.{rules}
 use Rattle.words.specs.Layout.{header_words, worker_from, total}
 use Rattle.words.proofs.Bounds.{counts, total_fits}
-use Rattle.words.proofs.layout.header_words.Statement.{statement}
-use Rattle.words.proofs.layout.header_words.Tie as tie
+use Rattle.words.proofs.layout.header_words.Goals as goal
 
-returns : tie.Need-returns
+pub returns : goal.returns
 unfolding header_words
 returns c good =
-    let args = c.before.before.args in
+    let args = c.args in
     let known = counts args.layout args.workers args.nodes good in
     let nodes-from : worker_from args.workers % 65536 ≡ worker_from args.workers = omega (arith, known) in
     let whole : total args.layout args.workers args.nodes % 65536 ≡ total args.layout args.workers args.nodes
     = omega (arith, total_fits args.layout args.workers args.nodes known) in
-    rw (c.total.ensures, c.before.worker-from.ensures, nodes-from, whole)
-
-pub header-words-spec : {M : Type 1} → statement M
-header-words-spec =
-    tie.close (tie.spec (search rules) (search rules) (search rules) (search rules) (search rules) returns)
+    rw (c.total-total.ensures, c.worker_from-nodes_from.ensures, nodes-from, whole)
