@@ -39,7 +39,7 @@ in_filter test (Memᴰ.tail {x = other} m) e = in_front other (test other) (in_f
 
 pub from_filter : {A : Type 0} (test : A → Bool) {x : A} {xs : List A} → Memᴰ x (filter test xs) → Memᴰ x xs × (test x ≡ true)
 unfolding filter
-from_filter test {xs = []} m = absurd (Memᴰ.not_nil m)
+from_filter test {xs = []} m = absurd (Memᴰ.not-nil m)
 from_filter test {xs = other ∷ xs} m =
     ⊎_elim (λ here. (Memᴰ.head here.0, rw here.0 here.1))
     (λ there. let later = from_filter test there in (Memᴰ.tail later.0, later.1))
@@ -51,7 +51,7 @@ in_map f (Memᴰ.head same) = Memᴰ.head (ap f same)
 in_map f (Memᴰ.tail m) = Memᴰ.tail (in_map f m)
 
 pub from_map : {A B : Type 0} (f : A → B) {y : B} {xs : List A} → Memᴰ y (map f xs) → (x : A) × Memᴰ x xs × (y ≡ f x)
-from_map f {xs = []} m = absurd (Memᴰ.not_nil m)
+from_map f {xs = []} m = absurd (Memᴰ.not-nil m)
 from_map f {xs = x ∷ xs} m =
     ⊎_elim (λ same. (x, Memᴰ.head refl, same))
     (λ there. let later = from_map f there in (later.0, Memᴰ.tail later.1, later.2))
@@ -59,7 +59,7 @@ from_map f {xs = x ∷ xs} m =
 
 -- every element is whatever is in the list
 pub each_in : {A : Type 0} {P : A → Type 0} {x : A} {xs : List A} → Each P xs → Memᴰ x xs → P x
-each_in none m = absurd (Memᴰ.not_nil m)
+each_in none m = absurd (Memᴰ.not-nil m)
 each_in (first and others) m = ⊎_elim (λ same. rw same first) (λ there. each_in others there) (Memᴰ.cases_cons m)
 
 pub each_of : {A : Type 0} {P : A → Type 0} (xs : List A) → ((x : A) → Memᴰ x xs → P x) → Each P xs

@@ -30,7 +30,7 @@ member_key key labels = (forth labels, back labels)
         (dichotomy (eqb key label.key))
 
     back : (labels : List Label) → Memᴰ key (keys_in labels) → member key labels ≡ true
-    back [] m = absurd (Memᴰ.not_nil m)
+    back [] m = absurd (Memᴰ.not-nil m)
     back (label ∷ labels) m =
         ⊎_elim (λ same. rw (eq-eqb key label.key same)) (λ there. rw (back labels there) (or-true (eqb key label.key)))
         (Memᴰ.cases_cons m)
@@ -44,7 +44,7 @@ pub data Walked (count : ℕ) (key next : ℕ → ℕ) : ℕ → ℕ → List �
 module _ {count : ℕ} {key next : ℕ → ℕ} where
   -- each has a key above the last, and not only above the one before it
   pub walked_above : {last node n : ℕ} {nodes : List ℕ} → Walked count key next last node nodes → Memᴰ n nodes → last < key n
-  walked_above (ended e) m = absurd (Memᴰ.not_nil m)
+  walked_above (ended e) m = absurd (Memᴰ.not-nil m)
   walked_above (passed h low above onward) m =
       ⊎_elim (λ same. rw same above) (λ there. omega (arith, walked_above onward there)) (Memᴰ.cases_cons m)
 
@@ -55,7 +55,7 @@ module _ {count : ℕ} {key next : ℕ → ℕ} where
   -- each is on the chain, and is not Tail
   walked_on : {last node n : ℕ} {nodes : List ℕ} → (node < count → OnChain next count node) → Walked count key next last node nodes →
       Memᴰ n nodes → OnChain next count n × (n ≢ tail)
-  walked_on on (ended e) m = absurd (Memᴰ.not_nil m)
+  walked_on on (ended e) m = absurd (Memᴰ.not-nil m)
   walked_on on (passed h low above onward) m =
       ⊎_elim (λ same. rw same (on low, h)) (λ there. walked_on (link (on low) h) onward there) (Memᴰ.cases_cons m)
 
@@ -66,7 +66,7 @@ module _ {count : ℕ} {key next : ℕ → ℕ} where
 
   walked_next : {last node n : ℕ} {nodes : List ℕ} → Walked count key next last node nodes → Memᴰ n nodes → next n ≢ tail →
       Memᴰ (next n) nodes
-  walked_next (ended e) m h = absurd (Memᴰ.not_nil m)
+  walked_next (ended e) m h = absurd (Memᴰ.not-nil m)
   walked_next (passed k low above onward) m h =
       Memᴰ.tail
       (⊎_elim (λ same. rw same (walked_first onward (rw same at h))) (λ there. walked_next onward there h) (Memᴰ.cases_cons m))

@@ -41,7 +41,7 @@ module _ (key : ℕ → ℕ) where
       ]
 
   -- a walk that begins no lower than at Head's key passes nodes behind Tail alone
-  walked_few : {count last node : ℕ} {next : ℕ → ℕ} {nodes : List ℕ} → key head ≤ last → Walked count key next last node nodes →
+  walked_few : {count : ℕ} {next : ℕ → ℕ} {last node : ℕ} {nodes : List ℕ} → key head ≤ last → Walked count key next last node nodes →
       length nodes ≤ above last (count - 2)
   walked_few low (ended e) = zero-le
   walked_few {count} low (passed {last} {node} off in_nodes rises onward) =

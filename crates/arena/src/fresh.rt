@@ -9,6 +9,7 @@ use words::records::worker_words;
 use words::{Verdict, clear, layout, put, write};
 use worker::{Node, Worker, refusal};
 
+#[tactic(auto, unfolding(crate::specs::Init::init_refusals))]
 pub(crate) fn init_verdict(arena: &[u16], layout: u16, workers: u16, nodes: u16) -> Verdict
     ensures { verdict_reply result ≡ replied (init_refusals arena.now layout workers nodes) [] }
 {

@@ -21,6 +21,7 @@ pub enum Listing {
 }
 
 // Lays a fresh arena of a layout (document 01: lay). Words past its total stay.
+#[tactic(auto, unfolding(crate::specs::Init::init_answer, crate::specs::Init::init_arena))]
 pub fn init(arena: &mut [u16], layout: u16, workers: u16, nodes: u16) -> Verdict
     ensures answer { verdict_reply result ≡ init_answer arena.old layout workers nodes }
     ensures words { arena.new ≡ init_arena arena.old layout workers nodes }
@@ -33,6 +34,7 @@ pub fn init(arena: &mut [u16], layout: u16, workers: u16, nodes: u16) -> Verdict
 }
 
 // Starts a call on a worker; an add on an arena of layout 2 carries the length of its label, every other call 0.
+#[tactic(auto, unfolding(crate::specs::Start::start_answer, crate::specs::Start::start_arena))]
 pub fn start(arena: &mut [u16], worker: u16, operation: u16, key: u16, length: u16) -> Verdict
     ensures answer { verdict_reply result ≡ start_answer arena.old worker operation key length }
     ensures words { arena.new ≡ start_arena arena.old worker operation key length }
@@ -44,6 +46,7 @@ pub fn start(arena: &mut [u16], worker: u16, operation: u16, key: u16, length: u
     verdict
 }
 
+#[tactic(auto, unfolding(crate::specs::Start::start_refusals, crate::specs::Start::call_refusals))]
 fn start_verdict(arena: &[u16], worker: u16, operation: u16, key: u16, length: u16) -> Verdict
     ensures { verdict_reply result ≡ replied (start_refusals arena.now worker operation key length) [] }
 {
@@ -54,6 +57,7 @@ fn start_verdict(arena: &[u16], worker: u16, operation: u16, key: u16, length: u
     call_verdict(arena, worker, operation, key, length)
 }
 
+#[tactic(auto, unfolding(crate::specs::Start::call_refusals))]
 fn call_verdict(arena: &[u16], worker: u16, operation: u16, key: u16, length: u16) -> Verdict
     ensures { verdict_reply result ≡ replied (call_refusals arena.now worker operation key length) [] }
 {

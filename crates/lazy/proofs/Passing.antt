@@ -21,7 +21,7 @@ in_below (suc count) {node} h =
 
 pub from_below : (count : ℕ) {node : ℕ} → Memᴰ node (nodes_below count) → node < count
 unfolding nodes_below
-from_below zero m = absurd (Memᴰ.not_nil m)
+from_below zero m = absurd (Memᴰ.not-nil m)
 from_below (suc count) m = ⊎_elim (λ q. omega arith) (λ later. let h = from_below count later in omega arith) (Memᴰ.cases_cons m)
 
 -- each once

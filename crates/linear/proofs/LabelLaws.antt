@@ -178,8 +178,8 @@ below_all key {labels} above = go (find key labels) refl
 pub rising_same : (xs ys : List Label) → Rising xs → Rising ys → ((key : ℕ) → find key xs ≡ find key ys) → xs ≡ ys
 unfolding find
 rising_same [] [] r s same = refl
-rising_same [] (y ∷ ys) r s same = absurd (mathlib.Core.List.Memᴰ.not_nil (shared s (λ key. sym (same key)) (mathlib.Core.List.Memᴰ.head {xs = ys} refl)))
-rising_same (x ∷ xs) [] r s same = absurd (mathlib.Core.List.Memᴰ.not_nil (shared r same (mathlib.Core.List.Memᴰ.head {xs = xs} refl)))
+rising_same [] (y ∷ ys) r s same = absurd (mathlib.Core.List.Memᴰ.not-nil (shared s (λ key. sym (same key)) (mathlib.Core.List.Memᴰ.head {xs = ys} refl)))
+rising_same (x ∷ xs) [] r s same = absurd (mathlib.Core.List.Memᴰ.not-nil (shared r same (mathlib.Core.List.Memᴰ.head {xs = xs} refl)))
 rising_same (x ∷ xs) (y ∷ ys) (above ahead r) (beyond ahead s) same =
     let there : Memᴰ x (y ∷ ys) = shared (above ahead r) same (mathlib.Core.List.Memᴰ.head {xs = xs} refl) in
     let back : Memᴰ y (x ∷ xs) = shared (beyond ahead s) (λ key. sym (same key)) (mathlib.Core.List.Memᴰ.head {xs = ys} refl) in

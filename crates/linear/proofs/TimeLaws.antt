@@ -87,7 +87,7 @@ in_times time (suc left) t h k =
 
 pub from_times : (time left : ℕ) {t : ℕ} → Memᴰ t (times_from time left) → (time ≤ t) × (t < time + left)
 unfolding times_from
-from_times time zero m = absurd (Memᴰ.not_nil m)
+from_times time zero m = absurd (Memᴰ.not-nil m)
 from_times time (suc left) m =
     ⊎_elim (λ same. omega arith) (λ there. let later = from_times (suc time) left there in omega arith) (Memᴰ.cases_cons m)
 

@@ -1,0 +1,46 @@
+-- Header, workers and nodes are one run of words.
+use Rattle.std.proofs.Common.{◌≡◌, sym, ◌∙◌, arith, length}
+use borrow.Rule.Slice.PartMut.{mid_len}
+use Rattle.words.specs.Layout.{node_width}
+use Rattle.words.proofs.Bounds.{Counts, counts, wide, narrow}
+use Rattle.words.proofs.Runs.{part_sets}
+use Rattle.arena.specs.Init.{fresh_nodes}
+use Rattle.arena.proofs.FreshLaws.{fresh_nodes_length, fresh_runs}
+use Rattle.arena.proofs.fresh.write_fresh.Goals as goal
+
+pub write_nodes-requires : goal.write_nodes-requires
+write_nodes-requires c =
+    let args = c.args in
+    let known = counts args.layout args.workers args.nodes c.requires.0 in
+    let long : length args.arena.now ≡ length c.write_workers.new.arena = sym (c.write_workers.auto.arena ∙ c.write_record.auto.arena) in
+    let width = c.node_width.ensures in
+    let whole = c.total-end.ensures in
+    let from = c.worker_from-from.ensures in (
+      rw width (wide known),
+      rw width (narrow args.layout),
+      omega (arith, known),
+      mid_len c.worker_from-from.result c.total-end.result c.write_workers.new.arena (omega (arith, whole, long, c.requires.1))
+          ∙ rw (whole, from, width) (omega arith),
+    )
+
+pub returns : goal.returns
+returns c =
+    let args = c.args in
+    let known = counts args.layout args.workers args.nodes c.requires.0 in
+    let long : length args.arena.now ≡ length c.write_workers.new.arena = sym (c.write_workers.auto.arena ∙ c.write_record.auto.arena) in
+    let nodes = c.write_nodes in
+    let whole = c.total-end.ensures in
+    let from = c.worker_from-from.ensures in
+    let width = c.node_width.ensures in
+    let all : nodes.new.nodes ≡ fresh_nodes (node_width args.layout) args.nodes = rw (width) at nodes.ensures in
+    part_sets nodes.new.nodes c.write_workers.new.arena c.worker_from-from.result c.total-end.result
+    (rw (whole, from) (omega arith)) (omega (arith, whole, long, c.requires.1))
+    (rw (all, whole, from) (fresh_nodes_length _ args.nodes (narrow args.layout) (omega (arith, known)) ∙ omega arith))
+    ∙ rw (
+      all,
+      from,
+      c.write_workers.ensures,
+      c.write_record.ensures,
+      c.header_words-header.ensures c.requires.0,
+    )
+    (fresh_runs args.arena.now args.layout args.workers args.nodes)

@@ -1,0 +1,20 @@
+-- Zeros, and then the three words that are none.
+use Rattle.arena.proofs.FreshLaws.{fresh_laid}
+use Rattle.arena.proofs.fresh.write_nodes.Goals as goal
+
+pub returns : goal.returns
+returns c =
+    rw (
+      c.put-3.ensures,
+      c.tail-2.ensures,
+      c.slot-3.ensures,
+      c.put-2.ensures,
+      c.tail.ensures,
+      c.slot-2.ensures,
+      c.put.ensures,
+      c.head.ensures,
+      c.slot.ensures,
+      c.clear.ensures,
+      c.requires.3,
+    )
+    (fresh_laid c.args.width c.args.count c.requires.2 c.requires.0 c.requires.1)
