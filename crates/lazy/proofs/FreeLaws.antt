@@ -53,7 +53,7 @@ module _ (next : ℕ → ℕ) (count : ℕ) where
       (λ first. (root, Memᴰ.head refl, leads_run count root node h first))
       (dichotomy (leads next count count root node))
 
-  run_reached : {roots : List ℕ} {root node : ℕ} → Memᴰ root roots → Run next count root node → reached next count roots node ≡ true
+  run_reached : {root : ℕ} {roots : List ℕ} {node : ℕ} → Memᴰ root roots → Run next count root node → reached next count roots node ≡ true
   unfolding reached
   run_reached {node} (Memᴰ.head {x} same) run = or_inl (leads next count count x node) _ (rw same at (run_leads run))
   run_reached {node} (Memᴰ.tail {x} later) run = or_inr (leads next count count x node) _ (run_reached later run)

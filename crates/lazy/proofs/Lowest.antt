@@ -1,7 +1,7 @@
 -- The lowest node that does not pass a test.
 use Prim.Native.Nat.{ℕ, zero, suc, ◌+◌, ◌-◌, ◌<◌, ◌≤◌}
 use mathlib.Core.Path.{◌≡◌, refl, sym, ◌∙◌}
-use mathlib.Core.Logic.{⊎_elim}
+use mathlib.Core.Logic.{⊎_elim, inl, inr}
 use mathlib.Core.Bool.{Bool, true, false}
 use mathlib.Mathlib.Data.Bool.Basic.{dichotomy}
 use native.Mathlib.Omega.{arith}
@@ -18,18 +18,18 @@ module _ (test : ℕ → Bool) where
   unfolding lowest_from
   found_from zero from {node} e = let z : ◌≡◌ {A = ℕ} 0 1 = cc in absurd (omega arith)
   found_from (suc left) from {node} e =
-      ⊎_elim
-      (λ fails.
-      let same : from ≡ node = cc (rw fails at e) in
-      (omega arith, omega arith, rw (← same) fails, λ lower h k. absurd (omega arith)))
-      (λ passes.
-      let found = found_from left (suc from) (rw passes at e) in (
-        omega arith,
-        omega arith,
-        found.2,
-        λ lower h k. elim (ℕ_discrete lower from) [ yes q ↦ rw q passes | no q ↦ found.3 lower (omega arith) k ],
-      ))
-      (dichotomy (test from))
+      elim (dichotomy (test from)) [
+        | inl fails ↦
+          let same : from ≡ node = cc (rw fails at e) in
+          (omega arith, omega arith, rw (← same) fails, λ lower h k. absurd (omega arith))
+        | inr passes ↦
+          let found = found_from left (suc from) (rw passes at e) in (
+            omega arith,
+            omega arith,
+            found.2,
+            λ lower h k. elim (ℕ_discrete lower from) [ yes q ↦ rw q passes | no q ↦ found.3 lower (omega arith) k ],
+          )
+      ]
 
   -- where none is found, each passes
   pub none_from : (left from : ℕ) → lowest_from test left from ≡ free.None → (node : ℕ) → from ≤ node → node < from + left → test node ≡ true

@@ -142,6 +142,7 @@ fn look_at_curr(nodes: &[u16], width: u16, state: Worker) -> Node
 }
 
 // The one place where a turn writes to the nodes.
+#[tactic(auto, unfolding(crate::specs::Turn::with_effect))]
 fn apply(arena: &mut [u16], effect: Effect)
     ensures { arena.new ≡ with_effect arena.old effect }
 {

@@ -1,0 +1,18 @@
+use Prim.Native.Nat.{◌-◌}
+use mathlib.Core.Path.{sym, ◌∙◌}
+use borrow.Author.Tests.{not-true, not-false}
+use Rattle.lazy.proofs.Lowest.{lowest_here, lowest_after, lowest_past, lowest_end}
+use Rattle.lazy.proofs.free.lowest_unreached.Goals as goal
+
+pub returns-then-not-reached-node : goal.returns-then-not-reached-node
+returns-then-not-reached-node c =
+    sym (c.loop-node.invariant ∙ lowest_here _ c.loop-node-test.true (not-true _ c.if-not-reached-node.true-raw))
+
+pub loop-node-preserved : goal.loop-node-preserved
+loop-node-preserved c = c.loop-node.invariant ∙ lowest_after _ _ _ (not-false _ c.if-not-reached-node.false-raw)
+
+pub returns : goal.returns
+returns c = sym (c.loop-node.invariant ∙ lowest_end _ _ _ c.loop-node-test.false)
+
+pub loop-node-init : goal.loop-node-init
+loop-node-init c = lowest_past _ _ _ c.skip_reached-node.ensures

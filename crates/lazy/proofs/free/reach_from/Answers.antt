@@ -1,0 +1,50 @@
+use Prim.Native.Nat.{◌-◌}
+use native.Mathlib.Omega.{arith}
+use Rattle.words.specs.Layout.{node_next}
+use Rattle.words.proofs.Slots.{slot_within}
+use Rattle.lazy.proofs.Rows.{OneMore, one_more}
+use Rattle.lazy.proofs.Walk.{begin, step, finish}
+use Rattle.lazy.proofs.free.reach_from.Goals as goal
+
+pub returns-then-reached-node : goal.returns-then-reached-node
+returns-then-reached-node c =
+    let loop = c.loop-node in
+    record {
+      walked = finish loop.invariant.0 (λ k. c.if-reached-node.true);
+      counted = loop.invariant.1;
+    }
+
+pub returns : goal.returns
+returns c = let loop = c.loop-node in
+    record {
+      walked = finish loop.invariant.0 (λ k. absurd (omega arith));
+      counted = loop.invariant.1;
+    }
+
+pub read_next-link-requires : goal.read_next-link-requires
+read_next-link-requires c =
+    let grows : OneMore c.args.count     c.loop-node.reached c.loop-node.node = let loop = c.loop-node in
+    one_more _ loop.reached loop.node c.loop-node-test.true loop.invariant.0.room c.if-reached-node.false in
+    let spans = c.requires.1 in
+    let below = c.loop-node-test.true in (
+      omega arith,
+      let within = slot_within c.args.width _ _ node_next below spans.0 in omega arith,
+      omega (arith, c.loop-node.invariant.1, grows.1),
+    )
+
+pub loop-node-smaller : goal.loop-node-smaller
+loop-node-smaller c =
+    let grows : OneMore c.args.count     c.loop-node.reached c.loop-node.node = let loop = c.loop-node in
+    one_more _ loop.reached loop.node c.loop-node-test.true loop.invariant.0.room c.if-reached-node.false in let more = grows in omega (arith, more.0, more.1)
+
+pub loop-node-preserved : goal.loop-node-preserved
+loop-node-preserved c =
+    let grows : OneMore c.args.count     c.loop-node.reached c.loop-node.node = let loop = c.loop-node in
+    one_more _ loop.reached loop.node c.loop-node-test.true loop.invariant.0.room c.if-reached-node.false in
+    let loop = c.loop-node in (
+      rw c.read_next-link.ensures.0 (step loop.invariant.0 c.loop-node-test.true),
+      omega (arith, c.read_next-link.ensures.1, loop.invariant.1, grows.0),
+    )
+
+pub loop-node-init : goal.loop-node-init
+loop-node-init c = (begin c.requires.0, c.requires.2)
