@@ -62,6 +62,7 @@ from_find key length (label ∷ labels) e =
 -- and in a list that rises there is nothing else with its key
 pub in_find : {label : Label} {labels : List Label} → Rising labels → Memᴰ label labels → find label.key labels ≡ some label.length
 unfolding find
+in_find {label} alone m = elim m [ ]
 in_find {label} (above ahead rises) (mathlib.Core.List.Memᴰ.head {x = first} same) =
     rw (eq-eqb label.key first.key (ap (λ (l : Label). l.key) same)) (ap (λ (l : Label). some l.length) (sym same))
 in_find {label} (above ahead rises) (mathlib.Core.List.Memᴰ.tail {x = first} m) =
