@@ -16,6 +16,7 @@ use words::{Verdict, layout, records};
 use worker::{Answer, Report, Worker};
 
 // A turn at this stage that leaves this answer decides it.
+#[tactic(auto, unfolding(linear::specs::History::is_decision))]
 fn is_decision(stage: u16, answer: u16) -> bool
     ensures { result ≡ is_decision stage answer }
 {
