@@ -3,13 +3,10 @@ use Prim.Native.Nat.{ℕ, suc, ◌+◌, ◌*◌, ◌≤◌, ◌<◌}
 use mathlib.Core.Path.{◌≡◌, refl, sym, ap, ◌∙◌}
 use mathlib.Core.List.{List, [], ◌∷◌, ◌++◌, flatten, append_assoc}
 use mathlib.Core.Bool.{true, false}
-use mathlib.Core.Logic.{⊎_elim}
 use mathlib.Core.Option.{none, some}
 use native.Mathlib.Nat.{zero-add}
 use native.Mathlib.Omega.{arith}
 use native.Mathlib.Numerals.{add-one}
-use denote.Enum.Declared.{tag_of}
-use types.Run.{OneOf}
 use lib.ListN.{length, take, replicate, length-append, length-replicate}
 use lib.Seq.{sets}
 use borrow.Author.Tests.{le-leb, lt-leb, lt-ltb, le-ltb}
@@ -23,7 +20,6 @@ use Rattle.bench_input.specs.declared.lines.Line.{Line}
 use Rattle.bench_input.specs.declared.lines.Line.TheVariants.{Board, Entries, Bad}
 use Rattle.bench_input.specs.declared.Parsed.{Parsed}
 use Rattle.bench_input.specs.declared.Parsed.TheVariants.{Planned, BadLine}
-use Rattle.bench_input.specs.contracts.lines.Line.{the_type}
 use Rattle.bench_input.proofs.LineLaws.{behind, some_part, one_part, more_parts}
 
 -- what `parse` promises
@@ -31,10 +27,11 @@ abbrev pub Says : Reading → List ℕ → Parsed → List ℕ → Type 0
 Says reading schedule answer words = (answer ≡ parsed_of reading) × (words ≡ scheduled schedule reading)
 
 -- a line that gives no entries: `board W N`, or a bad one
-pub not_entries : (entries : List (List ℕ)) (line : Line) → OneOf (0 ∷ 2 ∷ []) (tag_of the_type line) → with_line entries line ≡ none
+pub not_entries : (entries : List (List ℕ)) (line : Line) →
+    ((worker act key cells count : ℕ) → line ≡ Entries worker act key cells count → ⊥) → with_line entries line ≡ none
 unfolding with_line
 not_entries entries (Board workers nodes) t = refl
-not_entries entries (Entries worker act key cells count) t = ⊎_elim (λ e. absurd (omega arith)) (λ e. absurd (omega arith)) t
+not_entries entries (Entries worker act key cells count) t = absurd (t worker act key cells count refl)
 not_entries entries Bad t = refl
 
 -- the entries of a line, behind those that there are
@@ -165,12 +162,12 @@ module _ (input : List ℕ) (few : length input ≤ most_bytes) (at : ℕ) (foun
         (some_part (λ ps. input_lines (take at input ∷ ps) ≡ board_line (line_of (take at input)) ps) (λ part others. refl)
         line_feed (behind at input))
 
-    pub not_board : (line : Line) → line ≡ line_of (take at input) → OneOf (1 ∷ 2 ∷ []) (tag_of the_type line) →
+    pub not_board : (line : Line) → line ≡ line_of (take at input) → ((workers nodes : ℕ) → line ≡ Board workers nodes → ⊥) →
         reading_of input ≡ bad_line 1 []
     not_board line e t = first_line ∙ rw (← e) (go line t)
       where
-        go : (line : Line) → OneOf (1 ∷ 2 ∷ []) (tag_of the_type line) → board_line line (parts line_feed (behind at input)) ≡ bad_line 1 []
-        go (Board workers nodes) t = ⊎_elim (λ e. absurd (omega arith)) (λ e. absurd (omega arith)) t
+        go : (line : Line) → ((workers nodes : ℕ) → line ≡ Board workers nodes → ⊥) → board_line line (parts line_feed (behind at input)) ≡ bad_line 1 []
+        go (Board workers nodes) t = absurd (t workers nodes refl)
         go (Entries worker act key cells count) t = refl
         go Bad t = refl
 

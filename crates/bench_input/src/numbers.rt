@@ -25,6 +25,7 @@ pub(crate) fn number_of(text: &[u8]) -> Number
     }
 }
 
+#[tactic(auto, unfolding(crate::specs::Numbers::well_begun))]
 fn well_begun(text: &[u8]) -> bool
     ensures { result ≡ well_begun text.now }
 {
