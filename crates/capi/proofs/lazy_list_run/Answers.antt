@@ -1,0 +1,16 @@
+-- What a run answers, as one number and four totals; only a run that is done replies 0.
+use Rattle.capi.proofs.NumberLaws.{run_readable, zero_done}
+use Rattle.capi.proofs.lazy_list_run.Goals as goal
+
+pub returns : goal.returns
+returns c =
+    let s = c.run-summary.result in
+    let ran = c.run-summary.ensures in
+    record {
+      number = rw (c.of_summary.ensures, ran.answer);
+      words = ran.words;
+      calls = ran.calls;
+      waits = ran.waits;
+      totals = rw (c.write_totals.ensures, ran.answer);
+      linearizable = λ zero. zero_done s _ _ _ (rw ran.answer (run_readable _ _ _ _ _ _)) (rw (← c.of_summary.ensures) zero) ran.linearizable;
+    }
