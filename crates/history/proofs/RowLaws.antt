@@ -1,6 +1,6 @@
 -- Laws of rows that are filled, and of records in flat words.
 use Prim.Native.Nat.{ℕ, zero, suc, ◌+◌, ◌≤◌, ◌<◌}
-use mathlib.Core.Path.{◌≡◌, refl, ap}
+use mathlib.Core.Path.{◌≡◌, refl, sym, ap, subst}
 use mathlib.Core.List.{List, [], ◌∷◌, ◌++◌, append_assoc, flatten}
 use native.Mathlib.Nat.{add-zero, zero-add, add-suc, suc-add}
 use native.Mathlib.Numerals.{add-one}
@@ -55,7 +55,9 @@ module _ {A : Type 0} {words : A → List ℕ} {width : ℕ} {read : List ℕ �
   flat_from [] rest = refl
   flat_from (x ∷ xs) rest =
       let others = flat_words words xs ++ rest in
-      rw (append_assoc, stands.first x others, from_behind x others 0 (length xs), flat_from xs rest)
+      let apart : flat_words words (x ∷ xs) ++ rest ≡ words x ++ others = append_assoc (words x) (flat_words words xs) rest in
+      subst (λ (l : List ℕ). records_from (read l) 0 (suc (length xs)) ≡ x ∷ xs) (sym apart)
+      (rw (stands.first x others, from_behind x others 0 (length xs), flat_from xs rest))
 
   -- a row that is filled from the flat words of some records holds them, and then its own
   pub filled_flat : (xs : List A) (rest : List ℕ) (row : List A) →

@@ -31,7 +31,7 @@ waits_in = told_in (λ totals. totals.waits)
 -- a run on flat words, with the answer r, says of the run with rows of so many calls and waits: its answer, the arena at its end, and that
 -- the rows are filled from the words, where they have room
 pub record RanWithin (arena : List ℕ) (workers nodes : ℕ) (schedule : List ℕ) (call_room wait_room : ℕ) (r : Summary)
-    (after call_words wait_words_lem : List ℕ) : Type 0 where
+    (after call_words wait_words : List ℕ) : Type 0 where
   pub answer : summary_reply r ≡ run_answer arena workers nodes schedule call_room wait_room
   pub arena_after : after ≡ run_arena arena workers nodes schedule call_room wait_room
   pub calls_fit : calls_in r ≤ call_room
@@ -39,7 +39,7 @@ pub record RanWithin (arena : List ℕ) (workers nodes : ℕ) (schedule : List �
   pub calls : (row : List Call) → length row ≡ call_room →
       filled_row (call_in call_words) (calls_in r) row ≡ run_records arena workers nodes schedule row wait_room
   pub waits : (row : List Wait) → length row ≡ wait_room →
-      filled_row (wait_in wait_words_lem) (waits_in r) row ≡ run_waits arena workers nodes schedule call_room row
+      filled_row (wait_in wait_words) (waits_in r) row ≡ run_waits arena workers nodes schedule call_room row
   pub linearizable : DoneLinearizable r workers nodes schedule
 
 -- a record of a row before anything is written to it

@@ -1,0 +1,13 @@
+-- Each turn of the loop puts the next record in.
+use Rattle.std.proofs.Common.{sym, arith}
+use Rattle.schedule.specs.Book.{wait_in}
+use Rattle.history.proofs.RowLaws.{none_filled, length_filled, next_filled}
+use Rattle.history.proofs.fill_waits.Goals as goal
+
+pub loop-i-init : goal.loop-i-init
+loop-i-init c = (omega arith, sym (none_filled (wait_in c.args.words.now) c.args.row.now))
+
+pub loop-i-preserved : goal.loop-i-preserved
+loop-i-preserved c =
+    let record_at = wait_in c.args.words.now in
+    (omega arith, rw (c.loop-i.invariant.1, c.read_wait.ensures) (next_filled record_at c.loop-i.i c.args.row.now (omega (arith, c.requires))))
