@@ -57,9 +57,9 @@ module _ (number : ℕ) (waits : List Wait) (i : ℕ) (default : Wait) (there : 
       let more : filter (is_wait_of number) (take (i + 1) waits) ≡ filter (is_wait_of number) (take i waits) ++ (wait ∷ []) = one_more ∙ rw is in
       ap (λ some. flatten (map wait_text some)) more ∙ last_text wait_text (filter (is_wait_of number) (take i waits)) wait
 
-  pub no_wait : is_wait_of number wait ≡ false → texts (take (i + 1) waits) ≡ texts (take i waits)
+  pub no_wait_lem : is_wait_of number wait ≡ false → texts (take (i + 1) waits) ≡ texts (take i waits)
   unfolding filter
-  no_wait is =
+  no_wait_lem is =
       let same : filter (is_wait_of number) (take (i + 1) waits) ≡ filter (is_wait_of number) (take i waits)
       = one_more ∙ rw is (append-nil (filter (is_wait_of number) (take i waits))) in
       ap (λ some. flatten (map wait_text some)) same
