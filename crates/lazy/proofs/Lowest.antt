@@ -20,15 +20,15 @@ module _ (test : ℕ → Bool) where
   found_from (suc left) from {node} e =
       elim (dichotomy (test from)) [
         | inl fails ↦
-          let same : from ≡ node = cc (rw fails at e) in
-          (omega arith, omega arith, rw (← same) fails, λ lower h k. absurd (omega arith))
+            let same : from ≡ node = cc (rw fails at e) in
+            (omega arith, omega arith, rw (← same) fails, λ lower h k. absurd (omega arith))
         | inr passes ↦
-          let found = found_from left (suc from) (rw passes at e) in (
-            omega arith,
-            omega arith,
-            found.2,
-            λ lower h k. elim (ℕ_discrete lower from) [ yes q ↦ rw q passes | no q ↦ found.3 lower (omega arith) k ],
-          )
+            let found = found_from left (suc from) (rw passes at e) in (
+              omega arith,
+              omega arith,
+              found.2,
+              λ lower h k. elim (ℕ_discrete lower from) [ yes q ↦ rw q passes | no q ↦ found.3 lower (omega arith) k ],
+            )
       ]
 
   -- where none is found, each passes

@@ -14,7 +14,6 @@ use Rattle.worker.specs.Report.{report_values, is_still}
 use Rattle.worker.specs.Stages.{takes, step_of}
 use Rattle.worker.specs.Turn.{turn_of}
 use Rattle.worker.specs.declared.Worker.{Worker}
-use Rattle.worker.specs.declared.report.Answer.TheVariants as answer
 use Rattle.worker.specs.declared.report.Free.{Free}
 use Rattle.worker.specs.declared.report.Free.TheVariants as free
 use Rattle.worker.specs.declared.report.Report.{Report}

@@ -11,7 +11,7 @@ use Rattle.worker.specs.declared.report.Answer.TheVariants.{No}
 use Rattle.linear.specs.History.{Call}
 use Rattle.linear.specs.Order.{rank}
 use Rattle.linear.proofs.Simulation.{Placed, acting, late}
-use Rattle.linear.proofs.Timeline.{Begun, has, label, start, Schedule, state, last, entry, run_call_at}
+use Rattle.linear.proofs.Timeline.{Begun, label, Schedule, state, last, entry, run_call_at}
 use Rattle.linear.proofs.Keys.{none_found}
 use Rattle.linear.proofs.Phases.{decider, Decided, Phase, runs, closes, finished, phase_at}
 use Rattle.linear.proofs.Points.{Fate, waits, acted, looked}

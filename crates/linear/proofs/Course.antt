@@ -17,7 +17,7 @@ use Rattle.linear.specs.History.{is_decision}
 use Rattle.linear.proofs.State.{State, stepped}
 use Rattle.linear.proofs.Promises.{Standing}
 use Rattle.linear.proofs.Invariant.{In, Ahead}
-use Rattle.linear.proofs.Effects.{old, Act}
+use Rattle.linear.proofs.Effects.{Act}
 use Rattle.linear.proofs.After.{Places}
 use Rattle.linear.proofs.Changes.{Keeps, Adds, Takes}
 

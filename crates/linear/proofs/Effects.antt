@@ -11,7 +11,7 @@ use Rattle.worker.specs.declared.report.Effect.TheVariants.{Nothing, SetOwner, S
 use Rattle.words.specs.Layout.{node_key, node_next, node_mark, node_owner}
 use Rattle.linear.proofs.Reach.{Reach, here, on, join, carry, same?, Skip, skip, skip_back}
 use Rattle.linear.proofs.State.{State, shape_of, word_after, length_after}
-use Rattle.linear.proofs.Promises.{Holds, in_pred, in_curr, in_spare, held, Live, Searching, Found, Gap, Filled, Hit, Bypassed}
+use Rattle.linear.proofs.Promises.{Holds, in_pred, in_curr, in_spare, Live, Searching, Found, Gap, Filled, Hit, Bypassed}
 use Rattle.linear.proofs.Invariant.{Inv, Range, live_held, live_next, live_chain, not_tail, on_chain}
 
 -- a word at node n, where node p was written

@@ -1,7 +1,7 @@
 -- Laws of sets as lists of labels that rise by key.
 use Prim.Native.Nat.{ℕ, ◌≤◌, ◌<◌}
 use mathlib.Core.Path.{◌≡◌, refl, sym, ap, ap₂, ◌∙◌}
-use mathlib.Core.Logic.{◌≢◌, ◌⊎◌, inl, inr, ⊎_elim}
+use mathlib.Core.Logic.{◌⊎◌, inl, inr, ⊎_elim}
 use mathlib.Core.List.{List, [], ◌∷◌, Memᴰ}
 use mathlib.Core.Bool.{Bool, true, false, cond, not, ◌||◌, true≢false}
 use mathlib.Core.Option.{Option, none, some, none-ne-some}

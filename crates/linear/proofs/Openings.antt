@@ -19,11 +19,10 @@ use Rattle.linear.proofs.TimeLaws.{in_times}
 use Rattle.linear.proofs.OrderLaws.{in_sorted}
 use Rattle.linear.proofs.Simulation.{does_early}
 use Rattle.linear.proofs.LabelLaws.{find}
-use Rattle.linear.proofs.Reach.{here}
 use Rattle.linear.proofs.State.{State, decode, stepped}
 use Rattle.linear.proofs.After.{own_after, others_after}
 use Rattle.linear.proofs.Course.{Row, Verdict, goes_in, goes_out, present, missing, late as late_verdict, Course, rests, goes_on, settles, ends}
-use Rattle.linear.proofs.Timeline.{Begun, begun_at, label, Happens, nothing, start, turn, always, happens, Schedule, arena, state, last, entry, outcome, run_starts_at, run_call_at, in_order_of}
+use Rattle.linear.proofs.Timeline.{Begun, begun_at, label, Happens, nothing, start, turn, always, happens, Schedule, state, last, entry, outcome, run_starts_at, run_call_at, in_order_of}
 use Rattle.linear.proofs.Keys.{label_kept, label_started}
 use Rattle.linear.proofs.Phases.{Decided, Phase, runs, closes, finished, phase_at, decided_now}
 use Rattle.linear.proofs.Points.{waits, acted, looked, Fate, fate}

@@ -17,7 +17,7 @@ use Rattle.linear.specs.History.{is_decision}
 use Rattle.linear.proofs.State.{State, shape_of, stepped}
 use Rattle.linear.proofs.Promises.{in_pred, in_curr, BothHeld, CurrHeld, promises, promise_at}
 use Rattle.linear.proofs.Invariant.{Inv, promised, sane_at, live_held}
-use Rattle.linear.proofs.Effects.{top, far, link, quiet, owns, unlinks, at_node, off_node, written, two_nodes}
+use Rattle.linear.proofs.Effects.{top, far, link, quiet, unlinks, at_node, off_node, written, two_nodes}
 use Rattle.linear.proofs.Stable.{found_kept, pred_held_kept, both_held_kept}
 use Rattle.linear.proofs.Course.{rests, ends, Row}
 use Rattle.linear.proofs.TurnKinds.{Promised, Sane, whole, updates, any_call, steps, pred_known, curr_known, spare_known, sane_parts, key_in_range, searches, walks, finds_out, waits, owns_row}

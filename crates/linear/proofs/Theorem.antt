@@ -27,7 +27,7 @@ use Rattle.linear.proofs.Bridge.{Entered, refuses, starts, turns}
 use Rattle.linear.proofs.FreshState.{FreshState}
 use Rattle.linear.proofs.Invariant.{In}
 use Rattle.linear.proofs.Members.{whole}
-use Rattle.linear.proofs.Timeline.{sound, Begun, begun_at, label, start, entered_at, always, Schedule, fresh_schedule, arena, state, last, run_starts_at, run_call_at, calls_of, in_order_of}
+use Rattle.linear.proofs.Timeline.{sound, Begun, begun_at, label, entered_at, always, Schedule, fresh_schedule, arena, state, last, run_starts_at, run_call_at, calls_of, in_order_of}
 use Rattle.linear.proofs.TrueSnapshots.{all_true}
 use Rattle.linear.proofs.Rests.{all_rest}
 use Rattle.linear.proofs.Keys.{absent_of, not_found}

@@ -1,9 +1,9 @@
 -- The header test comes first; behind it the chain's answer holds of the node records, which the header places.
-use Rattle.std.proofs.Common.{◌≡◌, [], sym, ◌∙◌, arith, length}
+use Rattle.std.proofs.Common.{[], sym, ◌∙◌, arith, length}
 use Rattle.words.specs.Layout.{node_width, node_part, layout_of, nodes_of}
 use Rattle.words.specs.Header.{header_refusals}
 use Rattle.words.proofs.Judged.{refused_first, accepted_first}
-use Rattle.words.proofs.HeaderLaws.{Header, header_holds}
+use Rattle.words.proofs.HeaderLaws.{header_holds}
 use Rattle.arena.specs.Sets.{set_of}
 use Rattle.arena.specs.Snapshot.{chain_keys, chain_refusals, keys_of, snapshot_refusals, snapshot_answer, snapshot_words}
 use Rattle.arena.proofs.snapshot.Goals as goal

@@ -1,8 +1,6 @@
-use Prim.Native.Nat.{◌-◌}
 use mathlib.Core.Path.{◌≡◌}
 use native.Mathlib.Omega.{arith}
 use mathlib.Core.List.{flatten}
-use lib.ListN.{take}
 use lib.Seq.{take_all}
 use Rattle.bench_print.specs.Print.{keys_text}
 use Rattle.bench_print.proofs.PrintLaws.{printed_none, printed_then, keys_more}

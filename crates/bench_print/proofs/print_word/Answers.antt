@@ -1,7 +1,5 @@
-use Prim.Native.Nat.{◌-◌}
 use native.Mathlib.Numerals.{add-one}
 use native.Mathlib.Omega.{arith}
-use lib.ListN.{take}
 use lib.Seq.{take-suc, take_all}
 use Rattle.bench_print.proofs.PrintLaws.{printed_then}
 use Rattle.bench_print.proofs.print_word.Goals as goal

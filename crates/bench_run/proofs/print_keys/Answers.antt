@@ -1,7 +1,5 @@
 -- The snapshot is not refused, and its first words are the keys.
-use mathlib.Core.Path.{sym, ap, ◌∙◌}
 use lib.ListN.{replicate}
-use Rattle.arena.specs.Snapshot.{listing_reply}
 use Rattle.bench_run.proofs.RollLaws.{not_refused, keys_are}
 use Rattle.bench_run.proofs.print_keys.Goals as goal
 

@@ -1,7 +1,7 @@
 -- Each turn of the loop puts the next record in.
 use Rattle.std.proofs.Common.{sym, arith}
 use Rattle.schedule.specs.Book.{call_in}
-use Rattle.history.proofs.RowLaws.{none_filled, length_filled, next_filled}
+use Rattle.history.proofs.RowLaws.{none_filled, next_filled}
 use Rattle.history.proofs.fill.Goals as goal
 
 pub loop-i-init : goal.loop-i-init

@@ -1,5 +1,5 @@
 -- The answer and the words are those of what the turn comes to.
-use mathlib.Core.Path.{sym, ◌∙◌}
+use mathlib.Core.Path.{sym}
 use Rattle.lazy.specs.Turn.{turn_answer, turn_arena}
 use Rattle.lazy.proofs.turn.Goals as goal
 

@@ -29,13 +29,13 @@ returns-in-Refused c =
 
 pub slice_bounds-run_entries-end : goal.slice_bounds-run_entries-end
 slice_bounds-run_entries-end c =
-    let accepted : let args = c.args in     Accepted args.arena.now args.workers args.nodes args.schedule.now (length args.history.now / call_width)     (length args.waits.now / wait_width) = let args = c.args in
+    let accepted : let args = c.args in Accepted args.arena.now args.workers args.nodes args.schedule.now (length args.history.now / call_width) (length args.waits.now / wait_width) = let args = c.args in
     run_passed args.arena.now args.workers args.nodes args.schedule.now (length args.history.now / call_width)
     (length args.waits.now / wait_width) [] (c.in_default.ensures) in omega (arith, c.total-end.ensures, accepted.fits)
 
 pub run_entries-requires : goal.run_entries-requires
 run_entries-requires c =
-    let accepted : let args = c.args in     Accepted args.arena.now args.workers args.nodes args.schedule.now (length args.history.now / call_width)     (length args.waits.now / wait_width) = let args = c.args in
+    let accepted : let args = c.args in Accepted args.arena.now args.workers args.nodes args.schedule.now (length args.history.now / call_width) (length args.waits.now / wait_width) = let args = c.args in
     run_passed args.arena.now args.workers args.nodes args.schedule.now (length args.history.now / call_width)
     (length args.waits.now / wait_width) [] (c.in_default.ensures) in
     let passed = accepted in
@@ -54,7 +54,7 @@ run_entries-requires c =
 pub returns : goal.returns
 unfolding run_answer run_arena row_after
 returns c =
-    let accepted : let args = c.args in     Accepted args.arena.now args.workers args.nodes args.schedule.now (length args.history.now / call_width)     (length args.waits.now / wait_width) = let args = c.args in
+    let accepted : let args = c.args in Accepted args.arena.now args.workers args.nodes args.schedule.now (length args.history.now / call_width) (length args.waits.now / wait_width) = let args = c.args in
     run_passed args.arena.now args.workers args.nodes args.schedule.now (length args.history.now / call_width)
     (length args.waits.now / wait_width) [] (c.in_default.ensures) in
     let args = c.args in

@@ -1,4 +1,4 @@
-use Prim.Native.Nat.{◌+◌, ◌*◌, ◌-◌, ◌≤◌, ◌<◌}
+use Prim.Native.Nat.{◌+◌, ◌*◌, ◌≤◌, ◌<◌}
 use mathlib.Core.Path.{◌≡◌, refl, subst, ◌∙◌}
 use native.Mathlib.Omega.{arith}
 use lib.ListN.{length}
@@ -25,7 +25,7 @@ loop-done-init c =
 -- each entry may be made
 pub enter-book-requires : goal.enter-book-requires
 enter-book-requires c =
-    let inside : let schedule = c.args.schedule.now in     (c.loop-done.done < length (entries_of schedule)) × (entry_width * c.loop-done.done + 3 < length schedule)     × (length schedule ≤ 16000) = let schedule = c.args.schedule.now in
+    let inside : let schedule = c.args.schedule.now in (c.loop-done.done < length (entries_of schedule)) × (entry_width * c.loop-done.done + 3 < length schedule) × (length schedule ≤ 16000) = let schedule = c.args.schedule.now in
     let whole = c.requires.entry_width_len in
     let quotient = entries_quotient schedule whole in
     let all = entries_count schedule whole in
@@ -37,7 +37,7 @@ enter-book-requires c =
 
 pub loop-done-preserved : goal.loop-done-preserved
 loop-done-preserved c =
-    let inside : let schedule = c.args.schedule.now in     (c.loop-done.done < length (entries_of schedule)) × (entry_width * c.loop-done.done + 3 < length schedule)     × (length schedule ≤ 16000) = let schedule = c.args.schedule.now in
+    let inside : let schedule = c.args.schedule.now in (c.loop-done.done < length (entries_of schedule)) × (entry_width * c.loop-done.done + 3 < length schedule) × (length schedule ≤ 16000) = let schedule = c.args.schedule.now in
     let whole = c.requires.entry_width_len in
     let quotient = entries_quotient schedule whole in
     let all = entries_count schedule whole in
@@ -59,7 +59,7 @@ loop-done-preserved c =
 
 pub returns : goal.returns
 returns c =
-    let whole_run : let args = c.args in     Running args.workers args.nodes args.schedule.now args.history.now args.waits.now     (length (entries_of args.schedule.now)) c.loop-done.book c.loop-done.arena c.loop-done.history     c.loop-done.waits = let args = c.args in
+    let whole_run : let args = c.args in Running args.workers args.nodes args.schedule.now args.history.now args.waits.now (length (entries_of args.schedule.now)) c.loop-done.book c.loop-done.arena c.loop-done.history c.loop-done.waits = let args = c.args in
     let running = c.loop-done.invariant.1.1.1 in
     let all : c.loop-done.done ≡ length (entries_of args.schedule.now)
     = omega (arith, running.past, entries_quotient args.schedule.now c.requires.entry_width_len, c.loop-done-test.false) in
@@ -73,5 +73,5 @@ returns c =
       calls = history_end args.workers args.nodes args.schedule.now args.history.now args.waits.now running;
       waits = waits_end args.workers args.nodes args.schedule.now args.history.now args.waits.now running;
       totals = rw (entries_quotient args.schedule.now c.requires.entry_width_len)
-              (totals_end args.workers args.nodes args.schedule.now args.history.now args.waits.now running);
+          (totals_end args.workers args.nodes args.schedule.now args.history.now args.waits.now running);
     }

@@ -1,7 +1,5 @@
-use Prim.Native.Nat.{◌-◌}
 use mathlib.Core.Path.{sym, ◌∙◌}
 use native.Mathlib.Omega.{arith}
-use Rattle.words.specs.Header.{agrees}
 use Rattle.words.proofs.Runs.{agrees_on, agrees_not, agrees_end}
 use Rattle.words.proofs.agree.Goals as goal
 

@@ -1,9 +1,7 @@
-use Prim.Native.Nat.{◌-◌}
 use mathlib.Core.Path.{refl, sym, ◌∙◌}
 use native.Mathlib.Nat.{add-zero}
 use native.Mathlib.Omega.{arith}
-use lib.ListN.{length, drop, drop_of_length-le}
-use lib.Seq.{sets}
+use lib.ListN.{drop_of_length-le}
 use Rattle.words.proofs.Runs.{sets_on, sets_out}
 use Rattle.words.proofs.write.Goals as goal
 

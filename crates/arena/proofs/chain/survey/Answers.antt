@@ -1,12 +1,9 @@
-use Prim.Native.Nat.{◌+◌, ◌<◌, ◌-◌}
-use mathlib.Core.Path.{◌≡◌, refl, sym, ◌∙◌}
-use mathlib.Core.Bool.{Bool, true, false, cond, true≢false}
+use Prim.Native.Nat.{◌-◌}
+use mathlib.Core.Path.{refl, sym, ◌∙◌}
+use mathlib.Core.Bool.{true, false, true≢false}
 use native.Mathlib.Omega.{arith}
-use lib.ListN.{set}
-use lib.Dec.{eqb}
-use Rattle.arena.specs.Sets.{walk}
 use Rattle.arena.specs.Snapshot.{chain_broken}
-use Rattle.arena.proofs.Walks.{gathered, walk_end, walk_break, walk_on, rises, broken, whole}
+use Rattle.arena.proofs.Walks.{walk_end, walk_break, walk_on, rises, broken, whole}
 use Rattle.arena.proofs.chain.survey.Goals as goal
 
 pub loop-at-init : goal.loop-at-init

@@ -1,5 +1,5 @@
 -- The survey decides between a broken chain and a count; then the room does. The row has room for every chain.
-use Rattle.std.proofs.Common.{ℕ, ◌≤◌, List, [], ◌∷◌, ◌++◌, sym, ap, ◌∙◌, arith, drop, length}
+use Rattle.std.proofs.Common.{ℕ, List, [], ◌∷◌, ◌++◌, sym, ap, ◌∙◌, arith, drop}
 use Rattle.std.proofs.Math.ListN.{replicate, length-replicate}
 use Rattle.std.proofs.Math.Seq.{length-take-le}
 use Rattle.words.specs.Replies.{accepted}
@@ -45,13 +45,13 @@ returns-else-keys-n c =
     let told = c.in-Keys.ensures.answer in
     record {
       answer =
-        ap (λ (k : ℕ). accepted (k ∷ [])) (sym (keys_count args.width args.nodes.now args.count _ told))
-        ∙ sym (keys_fit args.width args.nodes.now args.count _ told _ _ _ c.if-keys-n.false);
+          ap (λ (k : ℕ). accepted (k ∷ [])) (sym (keys_count args.width args.nodes.now args.count _ told))
+          ∙ sym (keys_fit args.width args.nodes.now args.count _ told _ _ _ c.if-keys-n.false);
       words =
-        ap (λ (words : List ℕ). words ++ drop c.in-Keys.n args.keys.now) c.write.ensures
-        ∙ keys_written args.width args.nodes.now args.count _ told (replicate 1024 0) _ args.keys.now
-        (rw length-replicate (omega (arith, c.requires))) c.survey-found.ensures.words c.if-keys-n.false
-        ∙ sym (keys_fit args.width args.nodes.now args.count _ told _ _ _ c.if-keys-n.false);
+          ap (λ (words : List ℕ). words ++ drop c.in-Keys.n args.keys.now) c.write.ensures
+          ∙ keys_written args.width args.nodes.now args.count _ told (replicate 1024 0) _ args.keys.now
+          (rw length-replicate (omega (arith, c.requires))) c.survey-found.ensures.words c.if-keys-n.false
+          ∙ sym (keys_fit args.width args.nodes.now args.count _ told _ _ _ c.if-keys-n.false);
     }
 
 pub returns-in_default : goal.returns-in_default

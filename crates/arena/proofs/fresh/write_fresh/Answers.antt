@@ -2,7 +2,7 @@
 use Rattle.std.proofs.Common.{◌≡◌, sym, ◌∙◌, arith, length}
 use borrow.Rule.Slice.PartMut.{mid_len}
 use Rattle.words.specs.Layout.{node_width}
-use Rattle.words.proofs.Bounds.{Counts, counts, wide, narrow}
+use Rattle.words.proofs.Bounds.{counts, wide, narrow}
 use Rattle.words.proofs.Runs.{part_sets}
 use Rattle.arena.specs.Init.{fresh_nodes}
 use Rattle.arena.proofs.FreshLaws.{fresh_nodes_length, fresh_runs}

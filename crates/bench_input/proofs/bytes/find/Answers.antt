@@ -1,4 +1,3 @@
-use Prim.Native.Nat.{◌-◌}
 use native.Mathlib.Omega.{arith}
 use Rattle.bench_input.proofs.ByteLaws.{place_here, place_on, place_end}
 use Rattle.bench_input.proofs.bytes.find.Goals as goal

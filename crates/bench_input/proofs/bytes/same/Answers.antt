@@ -1,8 +1,5 @@
-use Prim.Native.Nat.{◌-◌}
 use mathlib.Core.Path.{refl, sym, ◌∙◌}
 use native.Mathlib.Omega.{arith}
-use lib.ListN.{length}
-use Rattle.bench_input.specs.Bytes.{same}
 use Rattle.bench_input.proofs.ByteLaws.{same_lengths, same_on, same_not, same_end}
 use Rattle.bench_input.proofs.bytes.same.Goals as goal
 

@@ -1,6 +1,5 @@
 use mathlib.Core.Path.{refl, sym, ap, ◌∙◌}
 use native.Mathlib.Omega.{arith}
-use lib.ListN.{length}
 use lib.Seq.{length-take-le}
 use Rattle.bench_input.specs.Input.{with_line}
 use Rattle.bench_input.proofs.LineLaws.{behind_length}

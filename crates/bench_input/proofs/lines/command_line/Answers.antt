@@ -1,7 +1,5 @@
 -- Each return goes by the words that the line does not begin with, and by the one that it does.
-use Prim.Native.Nat.{ℕ}
 use mathlib.Core.Path.{◌≡◌, sym, ◌∙◌}
-use mathlib.Core.List.{List}
 use mathlib.Core.Bool.{false}
 use Rattle.bench_input.specs.Bytes.{bytes_of, same}
 use Rattle.bench_input.specs.Lines.{command_line}

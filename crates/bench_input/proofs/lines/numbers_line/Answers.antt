@@ -1,13 +1,7 @@
 -- The second number decides, and then whether a field stands behind it.
-use Prim.Native.Nat.{◌+◌}
-use mathlib.Core.Path.{◌≡◌, sym}
-use mathlib.Core.Option.{map, get_or}
-use lib.ListN.{drop}
+use mathlib.Core.Path.{sym}
 use lib.Seq.{length-take-le}
-use Rattle.bench_input.specs.Bytes.{space, parts}
-use Rattle.bench_input.specs.Numbers.{number_of}
-use Rattle.bench_input.specs.Lines.{long_line, numbers_line}
-use Rattle.bench_input.specs.declared.lines.Line.TheVariants.{Bad}
+use Rattle.bench_input.specs.Bytes.{space}
 use Rattle.bench_input.proofs.ByteLaws.{place_within}
 use Rattle.bench_input.proofs.LineLaws.{some_parts, last_part, more_parts, last_field}
 use Rattle.bench_input.proofs.lines.numbers_line.Goals as goal

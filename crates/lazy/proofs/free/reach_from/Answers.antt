@@ -1,4 +1,3 @@
-use Prim.Native.Nat.{◌-◌}
 use native.Mathlib.Omega.{arith}
 use Rattle.words.specs.Layout.{node_next}
 use Rattle.words.proofs.Slots.{slot_within}
@@ -23,7 +22,7 @@ returns c = let loop = c.loop-node in
 
 pub read_next-link-requires : goal.read_next-link-requires
 read_next-link-requires c =
-    let grows : OneMore c.args.count     c.loop-node.reached c.loop-node.node = let loop = c.loop-node in
+    let grows : OneMore c.args.count c.loop-node.reached c.loop-node.node = let loop = c.loop-node in
     one_more _ loop.reached loop.node c.loop-node-test.true loop.invariant.0.room c.if-reached-node.false in
     let spans = c.requires.1 in
     let below = c.loop-node-test.true in (
@@ -34,12 +33,12 @@ read_next-link-requires c =
 
 pub loop-node-smaller : goal.loop-node-smaller
 loop-node-smaller c =
-    let grows : OneMore c.args.count     c.loop-node.reached c.loop-node.node = let loop = c.loop-node in
+    let grows : OneMore c.args.count c.loop-node.reached c.loop-node.node = let loop = c.loop-node in
     one_more _ loop.reached loop.node c.loop-node-test.true loop.invariant.0.room c.if-reached-node.false in let more = grows in omega (arith, more.0, more.1)
 
 pub loop-node-preserved : goal.loop-node-preserved
 loop-node-preserved c =
-    let grows : OneMore c.args.count     c.loop-node.reached c.loop-node.node = let loop = c.loop-node in
+    let grows : OneMore c.args.count c.loop-node.reached c.loop-node.node = let loop = c.loop-node in
     one_more _ loop.reached loop.node c.loop-node-test.true loop.invariant.0.room c.if-reached-node.false in
     let loop = c.loop-node in (
       rw c.read_next-link.ensures.0 (step loop.invariant.0 c.loop-node-test.true),

@@ -1,4 +1,3 @@
-use Prim.Native.Nat.{◌-◌}
 use mathlib.Core.Path.{◌≡◌, refl, sym}
 use mathlib.Core.List.{[], ◌∷◌}
 use native.Mathlib.Omega.{arith}
@@ -8,7 +7,6 @@ use borrow.Author.Rules.{rules}
 use Rattle.words.specs.Layout.{workers_of}
 use Rattle.words.specs.Records.{worker_at}
 use Rattle.lazy.specs.Free.{roots_of}
-use Rattle.lazy.specs.Row.{held}
 use Rattle.lazy.proofs.WholeSearch.{empty_closed, empty_held, from_empty, both, swapped, tells}
 use Rattle.lazy.proofs.free.search_with.Goals as goal
 

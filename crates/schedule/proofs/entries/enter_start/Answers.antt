@@ -1,6 +1,5 @@
 -- What the start answers decides the definitions.
-use mathlib.Core.Path.{sym, ap, ◌∙◌}
-use Rattle.words.specs.Replies.{verdict_reply}
+use mathlib.Core.Path.{◌∙◌}
 use Rattle.schedule.specs.Book.{next_book, next_calls, next_waits}
 use Rattle.schedule.proofs.BookLaws.{start_arena_lem, after_refused_start, after_start}
 use Rattle.schedule.proofs.entries.enter_start.Goals as goal

@@ -48,7 +48,7 @@ returns-in-Moved c =
     record {
       words = λ key cells. turn.ensures.words ∙ turn_arena_lem args.arena.now args.worker key cells;
       calls = λ key cells. rw (moves.ensures.calls, moves.ensures.books, c.read_worker-before.ensures, turn.ensures.words)
-            ((then key cells).calls args.history.now);
+          ((then key cells).calls args.history.now);
       waits = λ key cells. (then key cells).waits args.waits.now;
       books = λ key cells. rw (moves.ensures.books, c.read_worker-before.ensures, turn.ensures.words) (then key cells).books;
     }

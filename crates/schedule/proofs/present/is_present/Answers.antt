@@ -1,11 +1,9 @@
-use Prim.Native.Nat.{ℕ, ◌-◌, ◌<◌}
+use Prim.Native.Nat.{ℕ, ◌<◌}
 use mathlib.Core.Path.{◌≡◌, sym, ap, subst, ◌∙◌}
 use native.Mathlib.Omega.{arith}
-use lib.ListN.{take, drop}
 use borrow.Author.Rules.{rules}
 use Rattle.worker.specs.Node.{without_length, head}
 use Rattle.worker.specs.declared.Node.{Node}
-use Rattle.words.specs.Records.{node_at}
 use Rattle.words.proofs.HeaderLaws.{Header, header_holds}
 use Rattle.arena.specs.Sets.{node_in}
 use Rattle.schedule.proofs.Presence.{read_in, Ahead, begins, at_tail, rises, onward, found}

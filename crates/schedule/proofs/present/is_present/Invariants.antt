@@ -1,6 +1,5 @@
 -- The invariant: the walk has passed nodes with lower keys, and those that are left decide.
 use Prim.Native.Nat.{◌-◌}
-use Rattle.worker.specs.Node.{head}
 use Rattle.schedule.proofs.Presence.{Ahead}
 use Rattle.schedule.proofs.present.is_present.Given as goal
 

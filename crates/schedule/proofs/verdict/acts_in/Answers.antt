@@ -1,8 +1,6 @@
-use Prim.Native.Nat.{◌-◌}
-use mathlib.Core.Logic.{⊎_elim}
 use mathlib.Core.Bool.{Bool}
 use native.Mathlib.Omega.{arith}
-use lib.ListN.{length, drop, length-drop}
+use lib.ListN.{drop, length-drop}
 use Rattle.worker.specs.Worker.{within}
 use Rattle.linear.specs.Entries.{Entry}
 use Rattle.schedule.proofs.EntryLaws.{one_more, no_more, none_left}

@@ -56,7 +56,7 @@ returns-then-not-has_room c =
 pub returns-then-not-has_room-2 : goal.returns-then-not-has_room-2
 unfolding run_refusals
 returns-then-not-has_room-2 c =
-    let last : let args = c.args in     replied     (run_refusals args.arena.now args.workers args.nodes args.schedule.now args.call_room args.wait_room) []     ≡ cond (not c.has_room-2.result) (refused no_room) (accepted []) = rw (
+    let last : let args = c.args in replied (run_refusals args.arena.now args.workers args.nodes args.schedule.now args.call_room args.wait_room) [] ≡ cond (not c.has_room-2.result) (refused no_room) (accepted []) = rw (
       sym c.good_counts.ensures ∙ not-false _ c.if-not-good_counts.false-raw,
       sym c.is_bad.ensures ∙ c.if-is_bad.false,
       ← c.total.ensures,
@@ -70,7 +70,7 @@ returns-then-not-has_room-2 c =
 pub returns : goal.returns
 unfolding run_refusals
 returns c =
-    let last : let args = c.args in     replied     (run_refusals args.arena.now args.workers args.nodes args.schedule.now args.call_room args.wait_room) []     ≡ cond (not c.has_room-2.result) (refused no_room) (accepted []) = rw (
+    let last : let args = c.args in replied (run_refusals args.arena.now args.workers args.nodes args.schedule.now args.call_room args.wait_room) [] ≡ cond (not c.has_room-2.result) (refused no_room) (accepted []) = rw (
       sym c.good_counts.ensures ∙ not-false _ c.if-not-good_counts.false-raw,
       sym c.is_bad.ensures ∙ c.if-is_bad.false,
       ← c.total.ensures,
