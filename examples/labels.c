@@ -2,8 +2,8 @@
  * A printer with two workers. Worker 0 stores a label with its length, looks it up and takes it out again, alone; then worker 1 finds it in
  * the way. Last a schedule is run in which worker 1 looks for a label while worker 0 takes it out, and waits for a node that worker 0 has.
  *
- *     rt staticlib capi
- *     cc -std=c99 -Iinclude examples/labels.c target/staticlib/libcapi.a -o labels && ./labels
+ *     (cd crates/capi && rt lib)
+ *     cc -std=c99 -Iinclude examples/labels.c crates/capi/out/libcapi.a -o labels && ./labels
  */
 #include <stdio.h>
 

@@ -1,7 +1,7 @@
-//! Links the proved library, which `rt staticlib capi` has written.
+//! Links the proved library, which `rt lib` in crates/capi has written.
 
 fn main() {
-    let folder = concat!(env!("CARGO_MANIFEST_DIR"), "/../../target/staticlib");
+    let folder = concat!(env!("CARGO_MANIFEST_DIR"), "/../../crates/capi/out");
     println!("cargo::rustc-link-search=native={folder}");
     println!("cargo::rustc-link-lib=static=capi");
     println!("cargo::rerun-if-changed={folder}/libcapi.a");
