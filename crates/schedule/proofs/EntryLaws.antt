@@ -2,14 +2,14 @@
 use Prim.Native.Nat.{ℕ, zero, suc, ◌+◌, ◌*◌, ◌%◌, ◌≤◌, ◌<◌, ◌/◌}
 use mathlib.Core.Path.{◌≡◌, refl, ap}
 use mathlib.Core.List.{List, [], ◌∷◌}
-use mathlib.Core.Bool.{Bool, true, false, cond, and-false}
+use mathlib.Core.Bool.{Bool, true, false, cond, not, and-false}
 use native.Mathlib.Nat.{suc-add}
 use native.Mathlib.Numerals.{add-one, add-two, add-three, add-four}
 use native.Mathlib.Omega.{arith}
 use lib.ListN.{length, get_or, drop}
 use lib.Seq.{drop-cons}
-use lib.Dec.{leb, eqb}
-use borrow.Author.Tests.{lt-leb, ne_eqb}
+use lib.Dec.{leb, ltb, eqb}
+use borrow.Author.Tests.{lt-leb, ne_eqb, lt-ltb, le-ltb, leb-true, leb-false}
 use Rattle.worker.specs.Worker.{within}
 use Rattle.worker.specs.Refusals.{Refusal, judged}
 use Rattle.arena.specs.Start.{start_refusals}
@@ -130,3 +130,11 @@ not_waits ((applies, number) ∷ refusals) = go applies (not_waits refusals)
 pub start_silent : (arena : List ℕ) (entry : Entry) → is_turn entry ≡ false → is_waits (event_of arena entry) ≡ false
 unfolding event_of
 start_silent arena entry starts = rw starts (not_waits (start_refusals arena entry.worker entry.act entry.key entry.length))
+
+-- the room's test, as it is said of a row and as it is said of a count
+pub below_or_not : (a b : ℕ) → ltb a b ≡ not (leb b a)
+below_or_not a b = go (leb b a) refl
+  where
+    go : (t : Bool) → leb b a ≡ t → ltb a b ≡ not t
+    go true e = le-ltb a b (leb-true b a e)
+    go false e = lt-ltb a b (leb-false b a e)

@@ -6,7 +6,7 @@ use Rattle.bench_print.proofs.print_call.Goals as goal
 pub returns : goal.returns
 unfolding call_text
 returns c =
-    let to-operation = printed_then c.print_number-operation_at.ensures c.print_operation-key_at.ensures in
-    let to_start = printed_then (printed_then to-operation c.print_field-start_at.ensures) c.print_field-point_at.ensures in
-    let to-finish = printed_then (printed_then to_start c.print_field-finish_at.ensures) c.print_field-answer_at.ensures in
-    printed_then (printed_then to-finish c.print_answer-end.ensures) c.put.ensures
+    let to_operation = printed_then c.print_number-operation_at.ensures c.print_operation-key_at.ensures in
+    let to_start = printed_then (printed_then to_operation c.print_field-start_at.ensures) c.print_field-point_at.ensures in
+    let to_finish = printed_then (printed_then to_start c.print_field-finish_at.ensures) c.print_field-answer_at.ensures in
+    printed_then (printed_then to_finish c.print_answer-end.ensures) c.put.ensures

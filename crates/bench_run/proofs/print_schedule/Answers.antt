@@ -4,10 +4,9 @@ use mathlib.Core.Path.{◌≡◌, sym, ap, ◌∙◌}
 use native.Mathlib.Omega.{arith}
 use lib.ListN.{length, replicate, length-replicate}
 use Rattle.words.specs.Layout.{layout2, total}
-use Rattle.schedule.specs.Run.{summary_reply, run_answer}
-use Rattle.schedule.specs.declared.Summary.TheVariants as summary
+use Rattle.schedule.specs.Run.{summary_reply}
 use Rattle.bench_print.proofs.PrintLaws.{printed_then}
-use Rattle.bench_run.specs.Output.{arena_words, record_count, wait_count}
+use Rattle.bench_run.specs.Output.{arena_words}
 use Rattle.bench_run.proofs.OutputLaws.{passed, refused_text_lem, few_calls, few_waits, arena_are, roll_room, whole_text}
 use Rattle.bench_run.proofs.print_schedule.Goals as goal
 
@@ -19,8 +18,8 @@ returns-in-Refused c =
 
 pub print_calls-roll_at-requires : goal.print_calls-roll_at-requires
 print_calls-roll_at-requires c =
-    let done : let args = c.args in summary_reply (summary.Done c.in-Done.totals) ≡ run_answer (replicate arena_words 0) args.workers args.nodes args.schedule.now record_count wait_count = sym (ap summary_reply c.in-Done.is) ∙ c.run_thousand-ran.ensures.answer in
     let args = c.args in
+    let done = sym (ap summary_reply c.in-Done.is) ∙ c.run_thousand-ran.ensures.answer in
     let totals = c.in-Done.totals in
     record {
       count_bound = few_calls args.workers args.nodes args.schedule.now totals done;
@@ -30,16 +29,16 @@ print_calls-roll_at-requires c =
 -- the arena's own words are inside
 pub slice_bounds-print_keys-end : goal.slice_bounds-print_keys-end
 slice_bounds-print_keys-end c =
-    let done : let args = c.args in summary_reply (summary.Done c.in-Done.totals) ≡ run_answer (replicate arena_words 0) args.workers args.nodes args.schedule.now record_count wait_count = sym (ap summary_reply c.in-Done.is) ∙ c.run_thousand-ran.ensures.answer in
     let args = c.args in
+    let done = sym (ap summary_reply c.in-Done.is) ∙ c.run_thousand-ran.ensures.answer in
     let room = (passed args.workers args.nodes args.schedule.now c.in-Done.totals done).fits in
     let lent : length {A = ℕ} (replicate arena_words 0) ≡ arena_words = length-replicate {A = ℕ} arena_words 0 in
     omega (arith, c.total-end.ensures, c.run_thousand-ran.auto.arena)
 
 pub print_keys-requires : goal.print_keys-requires
 print_keys-requires c =
-    let done : let args = c.args in summary_reply (summary.Done c.in-Done.totals) ≡ run_answer (replicate arena_words 0) args.workers args.nodes args.schedule.now record_count wait_count = sym (ap summary_reply c.in-Done.is) ∙ c.run_thousand-ran.ensures.answer in
     let args = c.args in
+    let done = sym (ap summary_reply c.in-Done.is) ∙ c.run_thousand-ran.ensures.answer in
     let totals = c.in-Done.totals in
     let end : c.total-end.result - 0 ≡ total layout2 args.workers args.nodes = omega (arith, c.total-end.ensures) in
     rw (
@@ -51,8 +50,8 @@ print_keys-requires c =
 
 pub returns-in-Done : goal.returns-in-Done
 returns-in-Done c =
-    let done : let args = c.args in summary_reply (summary.Done c.in-Done.totals) ≡ run_answer (replicate arena_words 0) args.workers args.nodes args.schedule.now record_count wait_count = sym (ap summary_reply c.in-Done.is) ∙ c.run_thousand-ran.ensures.answer in
     let args = c.args in
+    let done = sym (ap summary_reply c.in-Done.is) ∙ c.run_thousand-ran.ensures.answer in
     let totals = c.in-Done.totals in
     let ran = c.run_thousand-ran.ensures in
     let end : c.total-end.result - 0 ≡ total layout2 args.workers args.nodes = omega (arith, c.total-end.ensures) in

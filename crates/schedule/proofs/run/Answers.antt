@@ -9,7 +9,7 @@ use Rattle.words.specs.Layout.{layout2, total}
 use Rattle.words.proofs.Judged.{judged_refused, judged_accepted}
 use Rattle.linear.proofs.Theorem.{linearizable}
 use Rattle.schedule.specs.Run.{call_width, wait_width, entries_of, run_refusals, run_answer, run_arena, row_after}
-use Rattle.schedule.proofs.HistoryLaws.{Accepted, run_passed}
+use Rattle.schedule.proofs.HistoryLaws.{run_passed}
 use Rattle.schedule.proofs.run.Goals as goal
 
 pub returns-in-Refused : goal.returns-in-Refused
@@ -29,18 +29,17 @@ returns-in-Refused c =
 
 pub slice_bounds-run_entries-end : goal.slice_bounds-run_entries-end
 slice_bounds-run_entries-end c =
-    let accepted : let args = c.args in Accepted args.arena.now args.workers args.nodes args.schedule.now (length args.history.now / call_width) (length args.waits.now / wait_width) = let args = c.args in
-    run_passed args.arena.now args.workers args.nodes args.schedule.now (length args.history.now / call_width)
-    (length args.waits.now / wait_width) [] (c.in_default.ensures) in omega (arith, c.total-end.ensures, accepted.fits)
+    let args = c.args in
+    let passed = run_passed args.arena.now args.workers args.nodes args.schedule.now (length args.history.now / call_width)
+    (length args.waits.now / wait_width) [] c.in_default.ensures in
+    omega (arith, c.total-end.ensures, passed.fits)
 
 pub run_entries-requires : goal.run_entries-requires
 run_entries-requires c =
-    let accepted : let args = c.args in Accepted args.arena.now args.workers args.nodes args.schedule.now (length args.history.now / call_width) (length args.waits.now / wait_width) = let args = c.args in
-    run_passed args.arena.now args.workers args.nodes args.schedule.now (length args.history.now / call_width)
-    (length args.waits.now / wait_width) [] (c.in_default.ensures) in
-    let passed = accepted in
-    let end = c.total-end in
     let args = c.args in
+    let passed = run_passed args.arena.now args.workers args.nodes args.schedule.now (length args.history.now / call_width)
+    (length args.waits.now / wait_width) [] c.in_default.ensures in
+    let end = c.total-end in
     let just : end.result - 0 ≡ total layout2 args.workers args.nodes = omega (arith, end.ensures) in
     record {
       nodes_value = passed.counts;
@@ -54,11 +53,9 @@ run_entries-requires c =
 pub returns : goal.returns
 unfolding run_answer run_arena row_after
 returns c =
-    let accepted : let args = c.args in Accepted args.arena.now args.workers args.nodes args.schedule.now (length args.history.now / call_width) (length args.waits.now / wait_width) = let args = c.args in
-    run_passed args.arena.now args.workers args.nodes args.schedule.now (length args.history.now / call_width)
-    (length args.waits.now / wait_width) [] (c.in_default.ensures) in
     let args = c.args in
-    let passed = accepted in
+    let passed = run_passed args.arena.now args.workers args.nodes args.schedule.now (length args.history.now / call_width)
+    (length args.waits.now / wait_width) [] c.in_default.ensures in
     let refusals = run_refusals args.arena.now args.workers args.nodes args.schedule.now
     (length args.history.now / call_width) (length args.waits.now / wait_width) in
     let told = c.in_default.ensures in

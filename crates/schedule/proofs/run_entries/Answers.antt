@@ -1,9 +1,9 @@
-use Prim.Native.Nat.{◌+◌, ◌*◌, ◌≤◌, ◌<◌}
+use Prim.Native.Nat.{◌<◌}
 use mathlib.Core.Path.{◌≡◌, refl, subst, ◌∙◌}
 use native.Mathlib.Omega.{arith}
 use lib.ListN.{length}
-use Rattle.schedule.specs.Run.{entry_width, entries_of}
-use Rattle.schedule.proofs.EntryLaws.{entries_count, entries_quotient}
+use Rattle.schedule.specs.Run.{entries_of}
+use Rattle.schedule.proofs.EntryLaws.{entries_quotient}
 use Rattle.schedule.proofs.Running.{Running, begins, may_enter, entered, history_end, waits_end, totals_end}
 use Rattle.schedule.proofs.run_entries.Goals as goal
 
@@ -25,24 +25,18 @@ loop-done-init c =
 -- each entry may be made
 pub enter-book-requires : goal.enter-book-requires
 enter-book-requires c =
-    let inside : let schedule = c.args.schedule.now in (c.loop-done.done < length (entries_of schedule)) × (entry_width * c.loop-done.done + 3 < length schedule) × (length schedule ≤ 16000) = let schedule = c.args.schedule.now in
-    let whole = c.requires.entry_width_len in
-    let quotient = entries_quotient schedule whole in
-    let all = entries_count schedule whole in
-    (omega (arith, c.loop-done-test.true), omega (arith, c.loop-done-test.true), c.requires.schedule_len_bound) in
     let args = c.args in
+    let there : c.loop-done.done < length (entries_of args.schedule.now)
+    = omega (arith, c.loop-done-test.true, entries_quotient args.schedule.now c.requires.entry_width_len) in
     let may = may_enter args.workers args.nodes args.schedule.now args.history.now args.waits.now
-    c.loop-done.invariant.1.1.1 inside.0 c.requires.entry_width_len c.requires.schedule_len_bound in
+    c.loop-done.invariant.1.1.1 there c.requires.entry_width_len c.requires.schedule_len_bound in
     record { roomy = may.0; accepted_value = may.1.0; length_value = may.1.1 }
 
 pub loop-done-preserved : goal.loop-done-preserved
 loop-done-preserved c =
-    let inside : let schedule = c.args.schedule.now in (c.loop-done.done < length (entries_of schedule)) × (entry_width * c.loop-done.done + 3 < length schedule) × (length schedule ≤ 16000) = let schedule = c.args.schedule.now in
-    let whole = c.requires.entry_width_len in
-    let quotient = entries_quotient schedule whole in
-    let all = entries_count schedule whole in
-    (omega (arith, c.loop-done-test.true), omega (arith, c.loop-done-test.true), c.requires.schedule_len_bound) in
     let args = c.args in
+    let there : c.loop-done.done < length (entries_of args.schedule.now)
+    = omega (arith, c.loop-done-test.true, entries_quotient args.schedule.now c.requires.entry_width_len) in
     let loop = c.loop-done in
     let enter = c.enter-book in (
       enter.auto.arena ∙ loop.invariant.0,
@@ -51,7 +45,7 @@ loop-done-preserved c =
         (
           enter.auto.waits ∙ loop.invariant.1.1.0,
           entered args.workers args.nodes args.schedule.now args.history.now args.waits.now loop.invariant.1.1.1
-              inside.0 c.requires.entry_width_len c.requires.schedule_in_bounds c.requires.schedule_in_bounds_2
+              there c.requires.entry_width_len c.requires.schedule_in_bounds c.requires.schedule_in_bounds_2
               enter.ensures.words enter.ensures.calls enter.ensures.waits enter.ensures.books,
         ),
       ),
@@ -59,15 +53,14 @@ loop-done-preserved c =
 
 pub returns : goal.returns
 returns c =
-    let whole_run : let args = c.args in Running args.workers args.nodes args.schedule.now args.history.now args.waits.now (length (entries_of args.schedule.now)) c.loop-done.book c.loop-done.arena c.loop-done.history c.loop-done.waits = let args = c.args in
-    let running = c.loop-done.invariant.1.1.1 in
+    let args = c.args in
+    let so_far = c.loop-done.invariant.1.1.1 in
     let all : c.loop-done.done ≡ length (entries_of args.schedule.now)
-    = omega (arith, running.past, entries_quotient args.schedule.now c.requires.entry_width_len, c.loop-done-test.false) in
+    = omega (arith, so_far.past, entries_quotient args.schedule.now c.requires.entry_width_len, c.loop-done-test.false) in
+    let running =
     subst
     (λ done. Running args.workers args.nodes args.schedule.now args.history.now args.waits.now done
-    c.loop-done.book c.loop-done.arena c.loop-done.history c.loop-done.waits) all running in
-    let args = c.args in
-    let running = whole_run in
+    c.loop-done.book c.loop-done.arena c.loop-done.history c.loop-done.waits) all so_far in
     record {
       words = running.arena_is;
       calls = history_end args.workers args.nodes args.schedule.now args.history.now args.waits.now running;

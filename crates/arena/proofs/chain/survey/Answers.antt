@@ -2,6 +2,7 @@ use Prim.Native.Nat.{◌-◌}
 use mathlib.Core.Path.{refl, sym, ◌∙◌}
 use mathlib.Core.Bool.{true, false, true≢false}
 use native.Mathlib.Omega.{arith}
+use borrow.Author.Tests.{eq-eqb, ne_eqb}
 use Rattle.arena.specs.Snapshot.{chain_broken}
 use Rattle.arena.proofs.Walks.{walk_end, walk_break, walk_on, rises, broken, whole}
 use Rattle.arena.proofs.chain.survey.Goals as goal
@@ -33,7 +34,7 @@ loop-at-preserved-then-unmarked c =
       omega (arith, loop.invariant.4),
       rw c.put.ensures (loop.invariant.5 ∙ walk_on args.width args.nodes.now args.count loop.listed loop.last loop.at loop.row _
           c.read_node-node.ensures c.loop-at-test.true loop.invariant.3 (omega (arith, loop.invariant.4))
-          c.if-not-at-count.false-raw true c.if-unmarked.true-raw),
+          c.if-not-at-count.false-raw true (eq-eqb _ _ c.if-unmarked.true)),
     )
 
 pub loop-at-preserved : goal.loop-at-preserved
@@ -48,7 +49,7 @@ loop-at-preserved c =
       omega (arith, loop.invariant.4),
       loop.invariant.5 ∙ walk_on args.width args.nodes.now args.count loop.listed loop.last loop.at loop.row _
           c.read_node-node.ensures c.loop-at-test.true loop.invariant.3 (omega (arith, loop.invariant.4))
-          c.if-not-at-count.false-raw false c.if-unmarked.false-raw,
+          c.if-not-at-count.false-raw false (ne_eqb _ _ c.if-unmarked.false),
     )
 
 pub returns : goal.returns

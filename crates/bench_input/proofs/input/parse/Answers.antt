@@ -2,7 +2,6 @@
 use mathlib.Core.Path.{sym, ap, ◌∙◌}
 use native.Mathlib.Omega.{arith}
 use lib.Seq.{length-take-le}
-use borrow.Author.Tests.{not-true, not-false}
 use Rattle.bench_input.specs.Input.{parsed_of, scheduled}
 use Rattle.bench_input.proofs.LineLaws.{behind_length}
 use Rattle.bench_input.proofs.InputLaws.{nothing_written, too_long, no_line, not_board, bad_counts, good_counts_lem}
@@ -33,7 +32,7 @@ returns-then-not-good_counts c =
     let both = nothing_written _ _ 1
     (bad_counts _ c.if-input-gt-MOST_BYTES.false _ c.find-end.ensures c.if-input-end.false _ _
     (sym c.in-Board.ensures)
-    (sym c.good_counts.ensures ∙ not-true _ c.if-not-good_counts.true-raw)) in
+    (sym c.good_counts.ensures ∙ c.if-not-good_counts.true)) in
     record { answer = both.0; words = both.1 }
 
 pub parse_entries-requires : goal.parse_entries-requires
@@ -46,7 +45,7 @@ returns c =
     let input = c.args.input.now in
     let whole = good_counts_lem input c.if-input-gt-MOST_BYTES.false _ c.find-end.ensures c.if-input-end.false _ _
     (sym c.in-Board.ensures)
-    (sym c.good_counts.ensures ∙ not-false _ c.if-not-good_counts.false-raw) in
+    (sym c.good_counts.ensures ∙ c.if-not-good_counts.false) in
     record {
       answer = c.parse_entries.ensures.answer ∙ sym (ap parsed_of whole);
       words = c.parse_entries.ensures.words ∙ sym (ap (scheduled _) whole);

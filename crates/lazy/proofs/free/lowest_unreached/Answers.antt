@@ -1,14 +1,13 @@
 use mathlib.Core.Path.{sym, ◌∙◌}
-use borrow.Author.Tests.{not-true, not-false}
 use Rattle.lazy.proofs.Lowest.{lowest_here, lowest_after, lowest_past, lowest_end}
 use Rattle.lazy.proofs.free.lowest_unreached.Goals as goal
 
 pub returns-then-not-reached-node : goal.returns-then-not-reached-node
 returns-then-not-reached-node c =
-    sym (c.loop-node.invariant ∙ lowest_here _ c.loop-node-test.true (not-true _ c.if-not-reached-node.true-raw))
+    sym (c.loop-node.invariant ∙ lowest_here _ c.loop-node-test.true (c.if-not-reached-node.true))
 
 pub loop-node-preserved : goal.loop-node-preserved
-loop-node-preserved c = c.loop-node.invariant ∙ lowest_after _ _ _ (not-false _ c.if-not-reached-node.false-raw)
+loop-node-preserved c = c.loop-node.invariant ∙ lowest_after _ _ _ (c.if-not-reached-node.false)
 
 pub returns : goal.returns
 returns c = sym (c.loop-node.invariant ∙ lowest_end _ _ _ c.loop-node-test.false)

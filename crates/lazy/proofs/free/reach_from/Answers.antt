@@ -1,7 +1,7 @@
 use native.Mathlib.Omega.{arith}
 use Rattle.words.specs.Layout.{node_next}
 use Rattle.words.proofs.Slots.{slot_within}
-use Rattle.lazy.proofs.Rows.{OneMore, one_more}
+use Rattle.lazy.proofs.Rows.{one_more}
 use Rattle.lazy.proofs.Walk.{begin, step, finish}
 use Rattle.lazy.proofs.free.reach_from.Goals as goal
 
@@ -14,7 +14,8 @@ returns-then-reached-node c =
     }
 
 pub returns : goal.returns
-returns c = let loop = c.loop-node in
+returns c =
+    let loop = c.loop-node in
     record {
       walked = finish loop.invariant.0 (λ k. absurd (omega arith));
       counted = loop.invariant.1;
@@ -22,8 +23,8 @@ returns c = let loop = c.loop-node in
 
 pub read_next-link-requires : goal.read_next-link-requires
 read_next-link-requires c =
-    let grows : OneMore c.args.count c.loop-node.reached c.loop-node.node = let loop = c.loop-node in
-    one_more _ loop.reached loop.node c.loop-node-test.true loop.invariant.0.room c.if-reached-node.false in
+    let loop = c.loop-node in
+    let grows = one_more _ loop.reached loop.node c.loop-node-test.true loop.invariant.0.room c.if-reached-node.false in
     let spans = c.requires.1 in
     let below = c.loop-node-test.true in (
       omega arith,
@@ -33,14 +34,14 @@ read_next-link-requires c =
 
 pub loop-node-smaller : goal.loop-node-smaller
 loop-node-smaller c =
-    let grows : OneMore c.args.count c.loop-node.reached c.loop-node.node = let loop = c.loop-node in
-    one_more _ loop.reached loop.node c.loop-node-test.true loop.invariant.0.room c.if-reached-node.false in let more = grows in omega (arith, more.0, more.1)
+    let loop = c.loop-node in
+    let grows = one_more _ loop.reached loop.node c.loop-node-test.true loop.invariant.0.room c.if-reached-node.false in
+    omega (arith, grows.0, grows.1)
 
 pub loop-node-preserved : goal.loop-node-preserved
 loop-node-preserved c =
-    let grows : OneMore c.args.count c.loop-node.reached c.loop-node.node = let loop = c.loop-node in
-    one_more _ loop.reached loop.node c.loop-node-test.true loop.invariant.0.room c.if-reached-node.false in
-    let loop = c.loop-node in (
+    let loop = c.loop-node in
+    let grows = one_more _ loop.reached loop.node c.loop-node-test.true loop.invariant.0.room c.if-reached-node.false in (
       rw c.read_next-link.ensures.0 (step loop.invariant.0 c.loop-node-test.true),
       omega (arith, c.read_next-link.ensures.1, loop.invariant.1, grows.0),
     )

@@ -1,6 +1,4 @@
-use mathlib.Core.Bool.{◌&&◌}
 use native.Mathlib.Omega.{arith}
-use borrow.Author.Tests.{not-false}
 use Rattle.lazy.proofs.Rows.{held_on, eight_held}
 use Rattle.lazy.proofs.free.skip_reached.Goals as goal
 
@@ -9,7 +7,7 @@ loop-node-preserved c =
     let row = c.args.reached.now in
     let first = c.four_reached in
     let second = c.four_reached-in-loop-node in
-    let eight = rw (first.ensures, second.ensures) at (not-false (first.result && second.result) c.if-not-all.false-raw) in
+    let eight = rw (first.ensures, second.ensures) at (c.if-not-all.false) in
     (omega arith, held_on row c.loop-node.invariant.1 (eight_held row c.loop-node.node eight))
 
 pub loop-node-init : goal.loop-node-init

@@ -1,7 +1,6 @@
 -- A decision is written into the record of the worker's open call, and then the books are those of the definition.
 use mathlib.Core.Path.{◌≡◌, sym, ◌∙◌}
 use mathlib.Core.Bool.{true, false}
-use borrow.Author.Tests.{not-true, not-false}
 use Rattle.words.specs.Records.{worker_at}
 use Rattle.linear.specs.History.{is_decision}
 use Rattle.schedule.specs.Book.{settles, with_decision}
@@ -13,14 +12,14 @@ returns-then-not-is_decision c =
     let args = c.args in
     let answer = c.worker_field-answer.ensures in
     let none : settles args.before (worker_at args.arena.now args.worker).answer ≡ false
-    = rw (← answer) (sym c.is_decision.ensures ∙ not-true _ c.if-not-is_decision.true-raw) in
+    = rw (← answer) (sym c.is_decision.ensures ∙ c.if-not-is_decision.true) in
     record {
       calls = rw none;
       books = rw none;
     }
 
 pub book_decision-next-requires : goal.book_decision-next-requires
-book_decision-next-requires c = sym c.is_decision.ensures ∙ not-false _ c.if-not-is_decision.false-raw
+book_decision-next-requires c = sym c.is_decision.ensures ∙ c.if-not-is_decision.false
 
 pub returns : goal.returns
 unfolding with_decision worker_at is_decision
@@ -28,7 +27,7 @@ returns c =
     let args = c.args in
     let answer = c.worker_field-answer.ensures in
     let some : settles args.before (worker_at args.arena.now args.worker).answer ≡ true
-    = rw (← answer) (sym c.is_decision.ensures ∙ not-false _ c.if-not-is_decision.false-raw) in
+    = rw (← answer) (sym c.is_decision.ensures ∙ c.if-not-is_decision.false) in
     let books = c.book_decision-next.ensures in
     record {
       calls = rw (
