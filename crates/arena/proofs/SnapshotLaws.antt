@@ -5,16 +5,17 @@ use mathlib.Core.List.{List, [], ◌∷◌}
 use borrow.Author.Tests.{le-ltb}
 use lib.ListN.{length}
 use Rattle.worker.specs.Refusals.{judged}
+use Rattle.worker.specs.declared.refusal.Refusal.{Refusal}
 use Rattle.worker.proofs.RefusalLaws.{NoneHolds, judged_append, none_accepts}
 use Rattle.words.specs.Layout.{layout_of, nodes_of, node_width, node_part}
-use Rattle.words.specs.Replies.{refused, accepted}
+use Rattle.words.specs.Replies.{accepted, refusing}
 use Rattle.words.specs.Header.{header_refusals}
 use Rattle.arena.specs.Sets.{ChainWhole, set_of}
 use Rattle.arena.specs.Snapshot.{chain_keys, chain_broken, chain_too_long, chain_refusals, keys_of, snapshot_refusals, snapshot_answer, snapshot_words, Listed}
 
 module _ (arena : List ℕ) (header : NoneHolds (header_refusals arena)) (whole : ChainWhole arena) where
   -- then nothing refuses it
-  accepts : {A : Type 0} (room : ℕ) (refuse : ℕ → A) (accept : A) → length (keys_of arena) ≤ room →
+  accepts : {A : Type 0} (room : ℕ) (refuse : Refusal → A) (accept : A) → length (keys_of arena) ≤ room →
       judged (snapshot_refusals arena room) refuse accept ≡ accept
   unfolding snapshot_refusals chain_refusals chain_broken chain_too_long keys_of set_of chain_keys
   accepts room refuse accept enough =
@@ -27,6 +28,6 @@ module _ (arena : List ℕ) (header : NoneHolds (header_refusals arena)) (whole 
   unfolding snapshot_answer snapshot_words
   snapshot_lists lent enough =
       record {
-        answer = accepts (length lent) refused (accepted (length (keys_of arena) ∷ [])) enough;
-        words = accepts (length lent) (λ number. lent) _ enough;
+        answer = accepts (length lent) refusing (accepted (length (keys_of arena) ∷ [])) enough;
+        words = accepts (length lent) (λ refusal. lent) _ enough;
       }

@@ -9,16 +9,17 @@ use native.Mathlib.Omega.{arith}
 use native.Mathlib.Nat.{zero-add, add-zero, add-suc, suc-add}
 use native.Mathlib.Numerals.{add-one, sub-one}
 use lib.ListN.{length, take, drop, set}
-use lib.Seq.{sets, sets-eq, take_at, length-take-le}
+use lib.Seq.{sets, sets-eq, take_at}
 use lib.Dec.{ltb, eqb}
 use borrow.Author.Tests.{eq-eqb, ne_eqb, lt-ltb, le-ltb, ltb-true, not-true, not-false}
 use Rattle.worker.specs.Node.{without_length, head, tail}
 use Rattle.worker.specs.declared.Node.{Node}
-use Rattle.worker.specs.Refusals.{broken_chain, no_room, judged}
+use Rattle.worker.specs.Refusals.{judged}
+use Rattle.worker.specs.declared.refusal.Refusal.{Refusal}
+use Rattle.worker.specs.declared.refusal.Refusal.TheVariants.{BrokenChain, NoRoom}
 use Rattle.words.specs.Records.{node_at, key_at, next_at}
-use Rattle.words.specs.Replies.{refused, accepted, replied}
+use Rattle.words.specs.Replies.{accepted, refusing, replied}
 use Rattle.words.proofs.Judged.{none_holds, given_values, refused_first, accepted_first}
-use Rattle.words.proofs.Runs.{sets_whole}
 use Rattle.arena.specs.Lists.{filter}
 use Rattle.arena.specs.Sets.{keys_in, is_none, is_unmarked, labels_at, walk, chain, chain_nodes, chain_labels}
 use Rattle.arena.specs.Snapshot.{chain_keys, chain_broken, chain_too_long, chain_refusals}
@@ -94,7 +95,7 @@ module _ (width : ℕ) (nodes : List ℕ) (count : ℕ) where
         keys o = listed (get_or o [])
 
         go : (o : Option (List ℕ)) → gathered 0 row o ≡ some (many, after) →
-            (accepted (many ∷ []) ≡ cond (is_none o) (refused broken_chain) (accepted (length (keys o) ∷ []))) × (after ≡ sets row 0 (keys o))
+            (accepted (many ∷ []) ≡ cond (is_none o) (refusing BrokenChain) (accepted (length (keys o) ∷ []))) × (after ≡ sets row 0 (keys o))
         go none e = absurd (none-ne-some (many, after) e)
         go (some places) e =
             let same : ◌≡◌ {A = ℕ × List ℕ} (many, after) (0 + length (listed places), sets row 0 (listed places)) = cc in
@@ -130,11 +131,11 @@ module _ (width : ℕ) (nodes : List ℕ) (count : ℕ) where
         rw suc-add (walk_more (more + 65536) (key_at width nodes head) (next_at width nodes head) (words head) (omega arith) ∙ chain_steps more)
 
   -- what follows of a survey that met a break
-  pub keys_broken : {A : Type 0} (room number : ℕ) (values : List ℕ) (refuse : ℕ → A) (accept : A) →
-      refused number ≡ replied (chain_broken width nodes count ∷ []) values →
-      judged (chain_refusals width nodes count room) refuse accept ≡ refuse number
+  pub keys_broken : {A : Type 0} (room : ℕ) (refusal : Refusal) (values : List ℕ) (refuse : Refusal → A) (accept : A) →
+      refusing refusal ≡ replied (chain_broken width nodes count ∷ []) values →
+      judged (chain_refusals width nodes count room) refuse accept ≡ refuse refusal
   unfolding chain_refusals
-  keys_broken room number values refuse accept =
+  keys_broken room refusal values refuse accept =
       refused_first (chain_broken width nodes count ∷ []) (chain_too_long width nodes count room ∷ []) values refuse accept
 
   -- what follows of a survey that found n keys
@@ -146,23 +147,23 @@ module _ (width : ℕ) (nodes : List ℕ) (count : ℕ) where
 
     -- the keys, taken from the row, are written
     pub keys_written : (row after keys : List ℕ) → count - 2 ≤ length row →
-        (is_none (chain width nodes count) ≡ false → after ≡ sets row 0 (chain_keys width nodes count)) → n ≤ length keys →
-        sets (take n keys) 0 (take n after) ++ drop n keys
+        (is_none (chain width nodes count) ≡ false → after ≡ sets row 0 (chain_keys width nodes count)) →
+        take n after ++ drop n keys
         ≡ chain_keys width nodes count ++ drop (length (chain_keys width nodes count)) keys
     unfolding chain_broken
-    keys_written row after keys long gathers h =
+    keys_written row after keys long gathers =
         let walked = chain_keys width nodes count in
         let few = chain_few width nodes count in
         let counted = keys_count in
         let unbroken : is_none (chain width nodes count) ≡ false = (none_holds (chain_broken width nodes count ∷ []) _ found).0 in
         let held : take n after ≡ walked =
         rw (gathers unbroken, sets-eq walked row 0 (omega arith)) (take_at walked (drop (0 + length walked) row) n counted) in
-        rw (held, sets_whole walked (take n keys) (rw (length-take-le n keys h) counted), counted)
+        rw (held, counted)
 
     -- the room decides
-    module _ {A : Type 0} (room : ℕ) (refuse : ℕ → A) (accept : A) where
+    module _ {A : Type 0} (room : ℕ) (refuse : Refusal → A) (accept : A) where
       abbrev judge : Bool → A
-      judge short = cond short (refuse no_room) accept
+      judge short = cond short (refuse NoRoom) accept
 
       roomy : judged (chain_refusals width nodes count room) refuse accept ≡ judged (chain_too_long width nodes count room ∷ []) refuse accept
       unfolding chain_refusals
@@ -172,6 +173,6 @@ module _ (width : ℕ) (nodes : List ℕ) (count : ℕ) where
       unfolding chain_too_long
       keys_fit h = let k = keys_count in roomy ∙ ap judge (le-ltb room (length (chain_keys width nodes count)) (omega arith))
 
-      pub keys_short : room < n → judged (chain_refusals width nodes count room) refuse accept ≡ refuse no_room
+      pub keys_short : room < n → judged (chain_refusals width nodes count room) refuse accept ≡ refuse NoRoom
       unfolding chain_too_long
       keys_short h = let k = keys_count in roomy ∙ ap judge (lt-ltb room (length (chain_keys width nodes count)) (omega arith))

@@ -3,7 +3,8 @@ use Rattle.std.specs.Prelude.{ℕ, ◌-◌, not, length, drop, replicate, ltb}
 use mathlib.Core.List.{List, [], ◌∷◌, ◌++◌, flatten}
 use Rattle.worker.specs.Node.{head_node, tail_node, unused_node}
 use Rattle.worker.specs.Worker.{idle_worker}
-use Rattle.worker.specs.Refusals.{Refusal, bad_counts, short_arena}
+use Rattle.worker.specs.Refusals.{Test}
+use Rattle.worker.specs.declared.refusal.Refusal.TheVariants.{BadCounts, ShortArena}
 use Rattle.words.specs.Layout.{node_width, good_counts, header_words, total}
 use Rattle.words.specs.Records.{worker_words, node_words}
 use Rattle.words.specs.Replies.{Reply, replied, written}
@@ -22,10 +23,10 @@ unfoldable pub fresh_words : ℕ → ℕ → ℕ → List ℕ
 fresh_words layout workers nodes = header_words layout workers nodes ++ fresh_workers workers ++ fresh_nodes (node_width layout) nodes
 
 -- order: 10, 1
-unfoldable pub init_refusals : List ℕ → ℕ → ℕ → ℕ → List Refusal
+unfoldable pub init_refusals : List ℕ → ℕ → ℕ → ℕ → List Test
 init_refusals arena layout workers nodes =
-    (not (good_counts layout workers nodes), bad_counts)
-    ∷ (ltb (length arena) (total layout workers nodes), short_arena)
+    (not (good_counts layout workers nodes), BadCounts)
+    ∷ (ltb (length arena) (total layout workers nodes), ShortArena)
     ∷ []
 
 unfoldable pub init_answer : List ℕ → ℕ → ℕ → ℕ → Reply

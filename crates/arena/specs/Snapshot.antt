@@ -1,17 +1,15 @@
 -- snapshot (document 01: write the roll; document 02, A3: the roll is the set).
 use Rattle.std.specs.Prelude.{ℕ, ◌≡◌, List, [], ◌∷◌, ◌++◌, length, drop, ltb}
-use Rattle.worker.specs.Refusals.{Refusal, broken_chain, no_room}
+use Rattle.worker.specs.Refusals.{Test}
+use Rattle.worker.specs.declared.refusal.Refusal.TheVariants.{BrokenChain, NoRoom}
 use Rattle.words.specs.Layout.{nodes_of, layout_of, node_width, node_part}
-use Rattle.words.specs.Replies.{Reply, refused, accepted, replied, written}
+use Rattle.words.specs.Replies.{Reply, accepted, replied, written}
 use Rattle.words.specs.Header.{header_refusals}
 use Rattle.arena.specs.Sets.{keys_in, is_none, chain, chain_labels, set_of}
-use Rattle.arena.specs.declared.Listing.{Listing}
-use Rattle.arena.specs.declared.Listing.TheVariants as listing
 
--- what a snapshot answers: the count of the keys, or the number of a refusal
-abbrev pub listing_reply : Listing → Reply
-listing_reply (listing.Keys count) = accepted (count ∷ [])
-listing_reply (listing.Refused number) = refused number
+-- what a snapshot gives: the count of the keys
+abbrev pub count_values : ℕ → List ℕ
+count_values count = count ∷ []
 
 module _ (width : ℕ) (nodes : List ℕ) (count : ℕ) where
   -- the keys of the set
@@ -19,15 +17,15 @@ module _ (width : ℕ) (nodes : List ℕ) (count : ℕ) where
   chain_keys = keys_in (chain_labels width nodes count)
 
   -- a broken chain, at a marked node as at any other: 7
-  unfoldable pub chain_broken : Refusal
-  chain_broken = (is_none (chain width nodes count), broken_chain)
+  unfoldable pub chain_broken : Test
+  chain_broken = (is_none (chain width nodes count), BrokenChain)
 
   -- more keys than room: 8
-  unfoldable pub chain_too_long : ℕ → Refusal
-  chain_too_long room = (ltb room (length chain_keys), no_room)
+  unfoldable pub chain_too_long : ℕ → Test
+  chain_too_long room = (ltb room (length chain_keys), NoRoom)
 
   -- the whole chain is judged before the room
-  unfoldable pub chain_refusals : ℕ → List Refusal
+  unfoldable pub chain_refusals : ℕ → List Test
   chain_refusals room = chain_broken ∷ chain_too_long room ∷ []
 
 -- the roll: the keys of an arena's set, rising
@@ -35,7 +33,7 @@ unfoldable pub keys_of : List ℕ → List ℕ
 keys_of arena = keys_in (set_of arena)
 
 -- order: 1, 2, 7, 8
-unfoldable pub snapshot_refusals : List ℕ → ℕ → List Refusal
+unfoldable pub snapshot_refusals : List ℕ → ℕ → List Test
 snapshot_refusals arena room =
     header_refusals arena ++ chain_refusals (node_width (layout_of arena)) (node_part arena) (nodes_of arena) room
 

@@ -1,23 +1,24 @@
 -- start: a call on a worker.
 use Rattle.std.specs.Prelude.{ℕ, List, [], ◌∷◌, ◌++◌, not, leb, ltb, eqb}
 use Rattle.worker.specs.Worker.{is_call, idle_stage, last_stage, started_worker}
-use Rattle.worker.specs.Refusals.{Refusal, no_such_worker, broken_record, busy, bad_call}
+use Rattle.worker.specs.Refusals.{Test}
+use Rattle.worker.specs.declared.refusal.Refusal.TheVariants.{NoSuchWorker, BrokenRecord, Busy, BadCall}
 use Rattle.words.specs.Layout.{node_width, has_length, layout_of, workers_of}
 use Rattle.words.specs.Records.{worker_at, with_worker}
 use Rattle.words.specs.Replies.{Reply, replied, written}
 use Rattle.words.specs.Header.{header_refusals}
 
 -- no such worker: 3; a stage above 25: 6; a stage not 0: 4; no call, or a bad length: 5
-unfoldable pub call_refusals : List ℕ → ℕ → ℕ → ℕ → ℕ → List Refusal
+unfoldable pub call_refusals : List ℕ → ℕ → ℕ → ℕ → ℕ → List Test
 call_refusals arena worker operation key length =
-    (leb (workers_of arena) worker, no_such_worker)
-    ∷ (ltb last_stage (worker_at arena worker).stage, broken_record)
-    ∷ (not (eqb (worker_at arena worker).stage idle_stage), busy)
-    ∷ (not (is_call (has_length (node_width (layout_of arena))) operation key length), bad_call)
+    (leb (workers_of arena) worker, NoSuchWorker)
+    ∷ (ltb last_stage (worker_at arena worker).stage, BrokenRecord)
+    ∷ (not (eqb (worker_at arena worker).stage idle_stage), Busy)
+    ∷ (not (is_call (has_length (node_width (layout_of arena))) operation key length), BadCall)
     ∷ []
 
 -- order: 1, 2, 3, 6, 4, 5
-unfoldable pub start_refusals : List ℕ → ℕ → ℕ → ℕ → ℕ → List Refusal
+unfoldable pub start_refusals : List ℕ → ℕ → ℕ → ℕ → ℕ → List Test
 start_refusals arena worker operation key length = header_refusals arena ++ call_refusals arena worker operation key length
 
 unfoldable pub start_answer : List ℕ → ℕ → ℕ → ℕ → ℕ → Reply

@@ -1,37 +1,45 @@
 // A fresh arena, for init.
-ghost use Rattle.std.specs.Prelude.{◌≡◌, true, [], ◌+◌, ◌*◌, ◌≤◌, length};
+ghost use Rattle.std.specs.Prelude.{◌≡◌, IfOk, [], ◌+◌, ◌*◌, ◌≤◌, length};
 ghost use Rattle.std.proofs.lemmas.List.Edits.{sets};
-ghost use Rattle.words.specs.Layout.{header_width, worker_from, total, good_counts};
-ghost use Rattle.words.specs.Replies.{verdict_reply, replied};
+ghost use Rattle.words.specs.Layout.{header_width, worker_from, total};
+ghost use Rattle.words.specs.Replies.{no_values, reply, replied};
 ghost use Rattle.arena.specs.Init.{fresh_workers, fresh_nodes, fresh_words, init_refusals};
 
+use words::layout::{self, Counts};
 use words::records::worker_words;
-use words::{Verdict, clear, layout, put, write};
-use worker::{Node, Worker, refusal};
+use words::{clear, put, write};
+use worker::{Node, Refusal, Worker};
 
 #[tactic(auto, unfolding(crate::specs::Init::init_refusals))]
-pub(crate) fn init_verdict(arena: &[u16], layout: u16, workers: u16, nodes: u16) -> Verdict
-    ensures { verdict_reply result ≡ replied (init_refusals arena.now layout workers nodes) [] }
+pub(crate) fn init_verdict(
+    arena: &[u16],
+    layout: u16,
+    workers: u16,
+    nodes: u16,
+) -> Result<Counts, Refusal>
+    ensures answer { reply no_values result ≡ replied (init_refusals arena.now layout workers nodes) [] }
+    ensures counts { IfOk result (λ counts. (counts.layout ≡ layout) × (counts.workers ≡ workers) × (counts.nodes ≡ nodes)) }
 {
-    if !layout::good_counts(layout, workers, nodes) {
-        return Verdict::Refused(refusal::BAD_COUNTS);
+    let counts = Counts::new(layout, workers, nodes).ok_or(Refusal::BadCounts)?;
+    if arena.len() < counts.total() {
+        return Err(Refusal::ShortArena);
     }
-    if arena.len() < layout::total(layout, workers, nodes) {
-        return Verdict::Refused(refusal::SHORT_ARENA);
-    }
-    Verdict::Accepted
+    Ok(counts)
 }
 
-pub(crate) fn write_fresh(arena: &mut [u16], layout: u16, workers: u16, nodes: u16)
-    requires { (good_counts layout workers nodes ≡ true) × (total layout workers nodes ≤ length arena.old) }
-    ensures { arena.new ≡ sets arena.old 0 (fresh_words layout workers nodes) }
+pub(crate) fn write_fresh(arena: &mut [u16], counts: Counts)
+    requires { total counts.layout counts.workers counts.nodes ≤ length arena.old }
+    ensures { arena.new ≡ sets arena.old 0 (fresh_words counts.layout counts.workers counts.nodes) }
 {
-    let header = layout::header_words(layout, workers, nodes);
-    let from = layout::worker_from(workers);
-    let end = layout::total(layout, workers, nodes);
-    write_record(arena, 0, &header);
-    write_workers(arena, workers);
-    write_nodes(&mut arena[from..end], layout::node_width(layout), nodes);
+    let from = layout::worker_from(counts.workers);
+    let end = counts.total();
+    write_record(arena, 0, &counts.header());
+    write_workers(arena, counts.workers);
+    write_nodes(
+        &mut arena[from..end],
+        layout::node_width(counts.layout),
+        counts.nodes,
+    );
 }
 
 // Eight words, which the header has and a worker's record. Parts of one length, so that no word is tested for room.
@@ -49,12 +57,8 @@ fn write_workers(arena: &mut [u16], workers: u16)
     ensures { arena.new ≡ sets arena.old header_width (fresh_workers workers) }
 {
     let idle = worker_words(Worker::idle());
-    let mut at = layout::HEADER_WIDTH;
-    let mut left = workers;
-    while 0 < left {
-        write_record(arena, at, &idle);
-        at += layout::WORKER_WIDTH;
-        left -= 1;
+    for number in 0..workers {
+        write_record(arena, layout::worker_from(number), &idle);
     }
 }
 

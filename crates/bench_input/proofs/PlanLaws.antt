@@ -1,24 +1,16 @@
 -- What a plan promises to whoever runs it.
-use Prim.Native.Nat.{ℕ, suc, ◌+◌, ◌*◌, ◌≤◌}
-use mathlib.Core.Path.{◌≡◌, refl, subst}
-use mathlib.Core.List.{List, [], ◌∷◌, ◌++◌, flatten}
-use mathlib.Core.Bool.{Bool, true, false, cond}
-use mathlib.Core.Option.{Option, none, some, map, get_or, none-ne-some}
-use native.Mathlib.Nat.{zero-add}
-use native.Mathlib.Omega.{arith}
-use lib.ListN.{length, take, replicate, length-append, length-replicate}
-use lib.Seq.{sets-eq, take_at}
-use lib.Dec.{ltb, leb}
-use borrow.Author.Tests.{leb-true}
+use Rattle.std.proofs.Common.{◌≡◌, ℕ, suc, ◌*◌, ◌≤◌, List, [], ◌∷◌, ◌++◌, Bool, true, false, cond, ltb, Option, Some, None, length, take, length-append, zero-add, refl, subst, arith}
+use mathlib.Core.List.{flatten}
+use Rattle.std.specs.Option.{option_and_then, option_map_or}
+use Rattle.std.proofs.Math.Seq.{sets-eq, take_at}
 use Rattle.words.specs.Layout.{layout2, good_counts}
-use Rattle.words.proofs.Runs.{length_copies}
 use Rattle.bench_input.specs.Bytes.{line_feed, parts}
 use Rattle.bench_input.specs.Lines.{most_entries, line_of}
-use Rattle.bench_input.specs.Input.{most_bytes, entry_width, entry, Reading, planned, bad_line, with_line, lines_from, board_line, input_lines}
+use Rattle.bench_input.specs.Input.{most_bytes, entry_width, Reading, planned, bad_line, text_entries, good_board, lines_from, input_lines}
 use Rattle.bench_input.specs.Input.{reading_of, scheduled}
 use Rattle.bench_input.specs.declared.lines.Line.{Line}
-use Rattle.bench_input.specs.declared.lines.Line.TheVariants.{Board, Entries, Bad}
-use Rattle.bench_input.proofs.InputLaws.{flatten_append}
+use Rattle.bench_input.specs.declared.lines.Line.TheVariants.{Board, Entries}
+use Rattle.bench_input.proofs.InputLaws.{flatten_append, new_fit}
 
 -- entries of one width, and not too many
 pub record Fits (entries : List (List ℕ)) : Type 0 where
@@ -34,25 +26,13 @@ fits_none : Fits []
 unfolding flatten
 fits_none = record { few = omega arith; sized = refl }
 
-fits_more : (entries more : List (List ℕ)) (line : Line) → Fits entries → with_line entries line ≡ some more → Fits more
-unfolding with_line
-fits_more entries more (Board workers nodes) f e = absurd (none-ne-some more e)
-fits_more entries more Bad f e = absurd (none-ne-some more e)
-fits_more entries more (Entries worker act key cells count) f e = go (leb (length entries + count) most_entries) refl e
-  where
-    new : List (List ℕ)
-    new = entries ++ replicate count (entry worker act key cells)
-
-    go : (t : Bool) → leb (length entries + count) most_entries ≡ t → cond t (some new) none ≡ some more → Fits more
-    go false h e = absurd (none-ne-some more e)
-    go true h e =
-        let same : new ≡ more = cc in
-        let l : length new ≡ length entries + count = rw (length-append, length-replicate) in
-        subst (λ (es : List (List ℕ)). Fits es) same
-        (record {
-          few = omega (arith, leb-true (length entries + count) most_entries h);
-          sized = rw (l, flatten_append, length-append, f.sized, length_copies count (entry worker act key cells)) (omega arith);
-        })
+fits_more : (entries new : List (List ℕ)) (text : List ℕ) → Fits entries → text_entries (length entries) text ≡ Some new → Fits (entries ++ new)
+fits_more entries new text f e =
+    let fit = new_fit (length entries) (line_of text) new e in
+    record {
+      few = rw length-append fit.0;
+      sized = rw (flatten_append, length-append (flatten entries), length-append entries, f.sized, fit.1) (omega arith);
+    }
 
 sound_lines : (workers nodes : ℕ) → good_counts layout2 workers nodes ≡ true → (line : ℕ) (entries texts : List (List ℕ)) → Fits entries →
     Sound (lines_from workers nodes line entries texts)
@@ -61,30 +41,31 @@ sound_lines workers nodes g line entries [] f = tt
 sound_lines workers nodes g line entries ([] ∷ []) f = (g, f)
 sound_lines workers nodes g line entries ((byte ∷ text) ∷ []) f = tt
 sound_lines workers nodes g line entries (text ∷ next ∷ others) f =
-    go (with_line entries (line_of text))
-    (λ more e. sound_lines workers nodes g (suc line) more (next ∷ others) (fits_more entries more (line_of text) f e))
+    go (text_entries (length entries) text)
+    (λ new e. sound_lines workers nodes g (suc line) (entries ++ new) (next ∷ others) (fits_more entries new text f e))
   where
     onward : List (List ℕ) → Reading
-    onward more = lines_from workers nodes (suc line) more (next ∷ others)
+    onward new = lines_from workers nodes (suc line) (entries ++ new) (next ∷ others)
 
-    go : (o : Option (List (List ℕ))) → ((more : List (List ℕ)) → o ≡ some more → Sound (onward more)) →
-        Sound (get_or (map onward o) (bad_line line entries))
-    go none h = tt
-    go (some more) h = h more refl
+    go : (o : Option (List (List ℕ))) → ((new : List (List ℕ)) → o ≡ Some new → Sound (onward new)) →
+        Sound (option_map_or onward o (bad_line line entries))
+    go None h = tt
+    go (Some new) h = h new refl
 
 sound : (input : List ℕ) → Sound (reading_of input)
-unfolding reading_of
+unfolding reading_of good_board
 sound input = go (ltb most_bytes (length input)) (parts line_feed input)
   where
     counted : (workers nodes : ℕ) (others : List (List ℕ)) (t : Bool) → good_counts layout2 workers nodes ≡ t →
-        Sound (cond t (lines_from workers nodes 2 [] others) (bad_line 1 []))
+        Sound (option_map_or (λ (counts : ℕ × ℕ). lines_from counts.0 counts.1 2 [] others) (cond t (Some (workers, nodes)) None) (bad_line 1 []))
     counted workers nodes others true g = sound_lines workers nodes g 2 [] others fits_none
     counted workers nodes others false g = tt
 
-    first : (line : Line) (others : List (List ℕ)) → Sound (board_line line others)
-    first (Board workers nodes) others = counted workers nodes others (good_counts layout2 workers nodes) refl
-    first (Entries worker act key cells count) others = tt
-    first Bad others = tt
+    first : (line : Option Line) (others : List (List ℕ)) →
+        Sound (option_map_or (λ (counts : ℕ × ℕ). lines_from counts.0 counts.1 2 [] others) (option_and_then good_board line) (bad_line 1 []))
+    first (Some (Board workers nodes)) others = counted workers nodes others (good_counts layout2 workers nodes) refl
+    first (Some (Entries worker act key cells count)) others = tt
+    first None others = tt
 
     go : (t : Bool) (texts : List (List ℕ)) → Sound (cond t (bad_line 0 []) (input_lines texts))
     go true texts = tt

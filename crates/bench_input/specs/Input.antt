@@ -1,15 +1,16 @@
 -- The whole input: lines that end with LF, the first `board W N`, the others entries of a schedule.
-use Rattle.std.specs.Prelude.{ℕ, suc, ◌+◌, cond, length, replicate, leb, ltb}
-use mathlib.Core.List.{List, [], ◌∷◌, ◌++◌, flatten}
-use Rattle.std.proofs.Math.Option.{Option, none, some, map, get_or}
+use Rattle.std.specs.Prelude.{ℕ, suc, ◌+◌, cond, length, replicate, leb, ltb, List, [], ◌∷◌, ◌++◌}
+use Rattle.std.specs.Prelude.{Option, Some, None, Result, Ok, Err, option_and_then}
+use Rattle.std.specs.Option.{option_map_or}
 use Rattle.std.proofs.lemmas.List.Edits.{sets}
+use mathlib.Core.List.{flatten}
 use Rattle.words.specs.Layout.{layout2, good_counts}
 use Rattle.bench_input.specs.Bytes.{line_feed, parts}
 use Rattle.bench_input.specs.Lines.{most_entries, line_of}
 use Rattle.bench_input.specs.declared.lines.Line.{Line}
-use Rattle.bench_input.specs.declared.lines.Line.TheVariants.{Board, Entries, Bad}
-use Rattle.bench_input.specs.declared.Parsed.{Parsed}
-use Rattle.bench_input.specs.declared.Parsed.TheVariants.{Planned, BadLine}
+use Rattle.bench_input.specs.declared.lines.Line.TheVariants.{Board, Entries}
+use Rattle.bench_input.specs.declared.Plan.{Plan}
+use Rattle.bench_input.specs.declared.BadLine.{BadLine}
 
 -- the input has at most 16,384 bytes
 abbrev pub most_bytes : ℕ
@@ -27,12 +28,15 @@ pub data Reading : Type 0 where
   planned : ℕ → ℕ → List (List ℕ) → Reading
   bad_line : ℕ → List (List ℕ) → Reading
 
--- the entries with those of a line behind them; none, where the line is not one of entries or passes 4,000 entries
-unfoldable pub with_line : List (List ℕ) → Line → Option (List (List ℕ))
-with_line entries (Board workers nodes) = none
-with_line entries (Entries worker act key cells count) =
-    cond (leb (length entries + count) most_entries) (some (entries ++ replicate count (entry worker act key cells))) none
-with_line entries Bad = none
+-- the entries of a line, behind so many: none, where the line is not one of entries or passes 4,000 entries
+unfoldable pub new_entries : ℕ → Line → Option (List (List ℕ))
+new_entries before (Board workers nodes) = None
+new_entries before (Entries worker act key cells count) =
+    cond (leb (before + count) most_entries) (Some (replicate count (entry worker act key cells))) None
+
+-- those of a text, if it is such a line
+abbrev pub text_entries : ℕ → List ℕ → Option (List (List ℕ))
+text_entries before text = option_and_then (new_entries before) (line_of text)
 
 module _ (workers nodes : ℕ) where
   -- The lines from a number on, where `entries` are those of the lines before. The last text stands behind the last LF:
@@ -42,31 +46,37 @@ module _ (workers nodes : ℕ) where
   lines_from line entries ([] ∷ []) = planned workers nodes entries
   lines_from line entries ((byte ∷ text) ∷ []) = bad_line line entries
   lines_from line entries (text ∷ next ∷ others) =
-      get_or
-      (map (λ more. lines_from (suc line) more (next ∷ others)) (with_line entries (line_of text)))
+      option_map_or
+      (λ new. lines_from (suc line) (entries ++ new) (next ∷ others))
+      (text_entries (length entries) text)
       (bad_line line entries)
 
--- line 1 is `board W N`, with good counts: a run lays layout 2 (document 02, A2)
-abbrev pub board_line : Line → List (List ℕ) → Reading
-board_line (Board workers nodes) others =
-    cond (good_counts layout2 workers nodes) (lines_from workers nodes 2 [] others) (bad_line 1 [])
-board_line (Entries worker act key cells count) others = bad_line 1 []
-board_line Bad others = bad_line 1 []
+-- W and N of `board W N`, if they are good: a run lays layout 2 (document 02, A2)
+unfoldable pub good_board : Line → Option (ℕ × ℕ)
+good_board (Board workers nodes) = cond (good_counts layout2 workers nodes) (Some (workers, nodes)) None
+good_board (Entries worker act key cells count) = None
+
+abbrev pub counts_of : List ℕ → Option (ℕ × ℕ)
+counts_of text = option_and_then good_board (line_of text)
+
+-- line 1 is `board W N`, with good counts
+abbrev pub board_line : List ℕ → List (List ℕ) → Reading
+board_line text others = option_map_or (λ counts. lines_from counts.0 counts.1 2 [] others) (counts_of text) (bad_line 1 [])
 
 -- an input without LF, as the empty one, has no good line: line 1
 abbrev pub input_lines : List (List ℕ) → Reading
 input_lines [] = bad_line 1 []
 input_lines (text ∷ []) = bad_line 1 []
-input_lines (text ∷ next ∷ others) = board_line (line_of text) (next ∷ others)
+input_lines (text ∷ next ∷ others) = board_line text (next ∷ others)
 
 -- line 0 for too many bytes
 unfoldable pub reading_of : List ℕ → Reading
 reading_of input = cond (ltb most_bytes (length input)) (bad_line 0 []) (input_lines (parts line_feed input))
 
 -- the answer: W, N and the number of the entries, or the number of the bad line
-abbrev pub parsed_of : Reading → Parsed
-parsed_of (planned workers nodes entries) = Planned (record { workers = workers; nodes = nodes; entries = length entries })
-parsed_of (bad_line line entries) = BadLine line
+abbrev pub parsed_of : Reading → Result Plan BadLine
+parsed_of (planned workers nodes entries) = Ok (record { workers = workers; nodes = nodes; entries = length entries })
+parsed_of (bad_line line entries) = Err (record { 0 = line })
 
 -- the words of the entries
 abbrev pub words_of : Reading → List ℕ

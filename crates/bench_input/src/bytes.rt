@@ -1,38 +1,26 @@
-// Bytes found and compared.
-ghost use Rattle.std.specs.Prelude.{◌≡◌};
-ghost use Rattle.bench_input.specs.Bytes.{place_of, same};
+// A text taken apart at a byte.
+ghost use Rattle.std.specs.Prelude.{◌≡◌, ◌<◌, ◌==◌, [], ◌∷◌, length, MatchOption, IfSome};
+ghost use Rattle.std.specs.List.{position};
+ghost use Rattle.bench_input.specs.Bytes.{parts};
 
-pub const LINE_FEED: u8 = 10;
+pub(crate) const LINE_FEED: u8 = b'\n';
 
-pub const SPACE: u8 = 32;
+pub(crate) const SPACE: u8 = b' ';
 
-// The place of the first mark, or the text's length.
-pub(crate) fn find(text: &[u8], mark: u8) -> usize
-    ensures { result ≡ place_of mark text.now }
+// The text before the first mark and the one behind it, if there is a mark.
+#[tactic(auto, using(crate::proofs::ByteLaws::parted, crate::proofs::ByteLaws::unparted))]
+pub(crate) fn split_once(text: &[u8], mark: u8) -> Option<(&[u8], &[u8])>
+    ensures parts { MatchOption result (parts mark text.now ≡ text.now ∷ [])
+        (λ halves. parts mark text.now ≡ halves.0.now ∷ parts mark halves.1.now) }
+    ensures shorter { IfSome result (λ halves. length halves.1.now < length text.now) }
 {
-    let mut i = 0;
-    while i < text.len() {
-        if text[i] == mark {
-            return i;
-        }
-        i += 1;
-    }
-    i
+    let at = place_of(text, mark)?;
+    Some((&text[..at], &text[at + 1..]))
 }
 
-// Whether two texts are the same bytes.
-pub(crate) fn same(a: &[u8], b: &[u8]) -> bool
-    ensures { result ≡ same a.now b.now }
+// The place of the first mark, if there is one.
+fn place_of(text: &[u8], mark: u8) -> Option<usize>
+    ensures { result ≡ position (λ byte. byte == mark) text.now }
 {
-    if a.len() != b.len() {
-        return false;
-    }
-    let mut i = 0;
-    while i < a.len() {
-        if a[i] != b[i] {
-            return false;
-        }
-        i += 1;
-    }
-    true
+    text.iter().position(|byte| *byte == mark)
 }

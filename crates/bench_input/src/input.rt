@@ -1,14 +1,15 @@
 // The whole input, line by line.
-ghost use Rattle.std.specs.Prelude.{◌≡◌, ◌*◌, ◌≤◌, length, replicate};
-ghost use mathlib.Core.List.{[], flatten};
+ghost use Rattle.std.specs.Prelude.{◌≡◌, ◌+◌, ◌*◌, ◌≤◌, length, replicate, [], option_map, unwrap_or};
+ghost use mathlib.Core.List.{flatten};
 ghost use Rattle.std.proofs.lemmas.List.Edits.{sets};
 ghost use Rattle.bench_input.specs.Bytes.{line_feed, parts};
-ghost use Rattle.bench_input.specs.Input.{most_bytes, entry_width, lines_from, reading_of, parsed_of, scheduled};
+ghost use Rattle.bench_input.specs.Lines.{most_entries};
+ghost use Rattle.bench_input.specs.Input.{most_bytes, entry_width, text_entries, counts_of, lines_from, reading_of, parsed_of, scheduled};
 
-use crate::bytes::{LINE_FEED, find};
+use crate::bytes::{LINE_FEED, split_once};
 use crate::lines::{Line, MOST_ENTRIES, line_of};
-use crate::{Parsed, Plan};
-use words::layout::{LAYOUT_2, good_counts};
+use crate::{BadLine, Plan};
+use words::layout::{Counts, LAYOUT_2};
 use words::write;
 
 const MOST_BYTES: usize = 16384;
@@ -17,28 +18,39 @@ const MOST_BYTES: usize = 16384;
 pub const ENTRY_WIDTH: usize = 4;
 
 // Reads an input and writes the entries of its schedule. Where a line is bad, the entries of the lines before it have been written.
-pub fn parse(input: &[u8], schedule: &mut [u16]) -> Parsed
+pub fn parse(input: &[u8], schedule: &mut [u16]) -> Result<Plan, BadLine>
     ensures answer { result ≡ parsed_of (reading_of input.now) }
     ensures words { schedule.new ≡ scheduled schedule.old (reading_of input.now) }
 {
     if MOST_BYTES < input.len() {
-        return Parsed::BadLine(0);
+        return Err(BadLine(0));
     }
-    let end = find(input, LINE_FEED);
-    if input.len() <= end {
-        return Parsed::BadLine(1);
-    }
-    let Line::Board(workers, nodes) = line_of(&input[..end]) else {
-        return Parsed::BadLine(1);
-    };
-    if !good_counts(LAYOUT_2, workers, nodes) {
-        return Parsed::BadLine(1);
-    }
-    parse_entries(&input[end + 1..], workers, nodes, schedule)
+    let (first, others) = split_once(input, LINE_FEED).ok_or(BadLine(1))?;
+    let (workers, nodes) = counts_of(first).ok_or(BadLine(1))?;
+    parse_entries(others, workers, nodes, schedule)
 }
 
-// The lines from the second on.
-fn parse_entries(text: &[u8], workers: u16, nodes: u16, schedule: &mut [u16]) -> Parsed
+// W and N of `board W N`, if they are good.
+#[tactic(auto, unfolding(crate::specs::Input::good_board))]
+fn counts_of(line: &[u8]) -> Option<(u16, u16)>
+    ensures { result ≡ counts_of line.now }
+{
+    match line_of(line)? {
+        Line::Board(workers, nodes) => {
+            let counts = Counts::new(LAYOUT_2, workers, nodes)?;
+            Some((counts.workers, counts.nodes))
+        }
+        Line::Entries { .. } => None,
+    }
+}
+
+// The lines from the second on. Behind the last LF stands nothing.
+fn parse_entries(
+    text: &[u8],
+    workers: u16,
+    nodes: u16,
+    schedule: &mut [u16],
+) -> Result<Plan, BadLine>
     requires { length text.now ≤ most_bytes }
     ensures answer { result ≡ parsed_of (lines_from workers nodes 2 [] (parts line_feed text.now)) }
     ensures words { schedule.new ≡
@@ -47,45 +59,57 @@ fn parse_entries(text: &[u8], workers: u16, nodes: u16, schedule: &mut [u16]) ->
     let mut rest = text;
     let mut line: u16 = 2;
     let mut entries: u16 = 0;
-    while 0 < rest.len() {
-        let end = find(rest, LINE_FEED);
-        if rest.len() <= end {
-            return Parsed::BadLine(line);
-        }
-        let Line::Entries {
-            worker,
-            act,
-            key,
-            length,
-            count,
-        } = line_of(&rest[..end])
-        else {
-            return Parsed::BadLine(line);
-        };
-        if MOST_ENTRIES - entries < count {
-            return Parsed::BadLine(line);
-        }
-        write_entries(schedule, entries, count, &[worker, act, key, length]);
-        entries += count;
+    // By `split_once`, as the library's `split` does not say what its parts are.
+    while let Some((first, others)) = split_once(rest, LINE_FEED) {
+        entries = write_line(schedule, entries, first).ok_or(BadLine(line))?;
         line += 1;
-        rest = &rest[end + 1..];
+        rest = others;
     }
-    Parsed::Planned(Plan {
+    if !rest.is_empty() {
+        return Err(BadLine(line));
+    }
+    Ok(Plan {
         workers,
         nodes,
         entries,
     })
 }
 
+// Writes the entries of a line behind those that there are, and answers how many there are then. A bad line gives none.
+#[tactic(auto, using(crate::proofs::InputLaws::copies_none), unfolding(crate::specs::Input::new_entries))]
+fn write_line(schedule: &mut [u16], entries: u16, line: &[u8]) -> Option<u16>
+    requires { entries ≤ most_entries }
+    ensures count { result ≡ option_map (λ new. entries + length new) (text_entries entries line.now) }
+    ensures words { schedule.new ≡
+        sets schedule.old (entry_width * entries) (flatten (unwrap_or (text_entries entries line.now) [])) }
+{
+    let Line::Entries {
+        worker,
+        act,
+        key,
+        length,
+        count,
+    } = line_of(line)?
+    else {
+        return None;
+    };
+    if MOST_ENTRIES - entries < count {
+        return None;
+    }
+    write_entries(schedule, entries, count, &[worker, act, key, length]);
+    Some(entries + count)
+}
+
 // So many equal entries, behind the first ones.
+#[tactic(auto, using(crate::proofs::InputLaws::copies_none, crate::proofs::InputLaws::copies_more))]
 fn write_entries(schedule: &mut [u16], first: u16, count: u16, entry: &[u16; ENTRY_WIDTH])
     ensures { schedule.new ≡ sets schedule.old (entry_width * first) (flatten (replicate count entry.now)) }
 {
-    let mut at = ENTRY_WIDTH * (first as usize);
-    let mut left = count;
-    while 0 < left {
-        write(schedule, at, entry);
-        at += ENTRY_WIDTH;
-        left -= 1;
+    for number in 0..count {
+        write(
+            schedule,
+            ENTRY_WIDTH * (usize::from(first) + usize::from(number)),
+            entry,
+        );
     }
 }

@@ -1,13 +1,12 @@
 // A line of the input, without its LF.
 ghost use Rattle.std.specs.Prelude.{◌≡◌};
-ghost use Rattle.bench_input.specs.Bytes.{space, parts};
-ghost use Rattle.bench_input.specs.Lines.{turn_line, command_line, long_line, numbers_line, line_of};
+ghost use Rattle.bench_input.specs.Lines.{turn_line, command_line, long_line, line_of};
 
-use crate::bytes::{SPACE, find, same};
-use crate::numbers::{Number, number_of};
+use crate::bytes::{SPACE, split_once};
+use crate::numbers::number_of;
 use worker::Worker;
 
-// What a line says: the counts of line 1, or so many equal entries of the schedule.
+// What a good line says: the counts of line 1, or so many equal entries of the schedule.
 #[derive(Clone, Copy)]
 pub(crate) enum Line {
     Board(u16, u16),
@@ -18,75 +17,49 @@ pub(crate) enum Line {
         length: u16,
         count: u16,
     },
-    Bad,
 }
 
 pub(crate) const MOST_ENTRIES: u16 = 4000;
 
+// The act of a turn, as a word of the schedule.
 const TURN: u16 = 0;
 
-pub(crate) fn line_of(line: &[u8]) -> Line
+// A word, and two numbers or three. With a fifth field the third text has a space in it, and is no number.
+#[tactic(auto, unfolding(crate::specs::Lines::line_of))]
+pub(crate) fn line_of(line: &[u8]) -> Option<Line>
     ensures { result ≡ line_of line.now }
 {
-    let first = find(line, SPACE);
-    if line.len() <= first {
-        return Line::Bad;
-    }
-    let rest = &line[first + 1..];
-    let second = find(rest, SPACE);
-    let Number::Value(a) = number_of(&rest[..second]) else {
-        return Line::Bad;
+    let (word, numbers) = split_once(line, SPACE)?;
+    let (first, others) = split_once(numbers, SPACE)?;
+    let a = number_of(first)?;
+    let Some((second, third)) = split_once(others, SPACE) else {
+        return command_line(word, a, number_of(others)?);
     };
-    if rest.len() <= second {
-        return Line::Bad;
-    }
-    numbers_line(&line[..first], a, &rest[second + 1..])
-}
-
-// A line of a word, a number and one or two fields. With further fields the last text has a space in it, and is no number.
-fn numbers_line(word: &[u8], a: u16, fields: &[u8]) -> Line
-    ensures { result ≡ numbers_line word.now a (parts space fields.now) }
-{
-    let end = find(fields, SPACE);
-    let Number::Value(b) = number_of(&fields[..end]) else {
-        return Line::Bad;
-    };
-    if fields.len() <= end {
-        return command_line(word, a, b);
-    }
-    let Number::Value(c) = number_of(&fields[end + 1..]) else {
-        return Line::Bad;
-    };
+    let b = number_of(second)?;
+    let c = number_of(third)?;
     long_line(word, a, b, c)
 }
 
 // A line of a word and two numbers.
-fn command_line(word: &[u8], a: u16, b: u16) -> Line
+#[tactic(auto, unfolding(crate::specs::Lines::command_line))]
+fn command_line(word: &[u8], a: u16, b: u16) -> Option<Line>
     ensures { result ≡ command_line word.now a b }
 {
-    if same(word, b"board") {
-        return Line::Board(a, b);
+    match word {
+        b"board" => Some(Line::Board(a, b)),
+        b"remove" => Some(one_entry(a, Worker::REMOVE, b, 0)),
+        b"contains" => Some(one_entry(a, Worker::CONTAINS, b, 0)),
+        b"turn" => turn_line(a, b),
+        _ => None,
     }
-    if same(word, b"remove") {
-        return one_entry(a, Worker::REMOVE, b, 0);
-    }
-    if same(word, b"contains") {
-        return one_entry(a, Worker::CONTAINS, b, 0);
-    }
-    if same(word, b"turn") {
-        return turn_line(a, b);
-    }
-    Line::Bad
 }
 
 // A line of a word and three numbers.
-fn long_line(word: &[u8], a: u16, b: u16, c: u16) -> Line
+#[tactic(auto, unfolding(crate::specs::Lines::long_line))]
+fn long_line(word: &[u8], a: u16, b: u16, c: u16) -> Option<Line>
     ensures { result ≡ long_line word.now a b c }
 {
-    if same(word, b"add") {
-        return one_entry(a, Worker::ADD, b, c);
-    }
-    Line::Bad
+    (word == b"add".as_slice()).then_some(one_entry(a, Worker::ADD, b, c))
 }
 
 fn one_entry(worker: u16, act: u16, key: u16, length: u16) -> Line
@@ -101,18 +74,16 @@ fn one_entry(worker: u16, act: u16, key: u16, length: u16) -> Line
     }
 }
 
-fn turn_line(worker: u16, count: u16) -> Line
+#[tactic(auto, unfolding(crate::specs::Lines::turn_line))]
+fn turn_line(worker: u16, count: u16) -> Option<Line>
     ensures { result ≡ turn_line worker count }
 {
-    if (1 <= count) & (count <= MOST_ENTRIES) {
-        Line::Entries {
-            worker,
-            act: TURN,
-            key: 0,
-            length: 0,
-            count,
-        }
-    } else {
-        Line::Bad
-    }
+    let turns = Line::Entries {
+        worker,
+        act: TURN,
+        key: 0,
+        length: 0,
+        count,
+    };
+    (1..=MOST_ENTRIES).contains(&count).then_some(turns)
 }

@@ -1,8 +1,8 @@
 -- Lines of document 01's listing and others, computed from the definitions.
 use mathlib.Core.Path.{◌≡◌, refl}
-use mathlib.Core.List.{[], ◌∷◌, flatten}
+use mathlib.Core.List.{[], ◌∷◌}
 use Rattle.bench_input.specs.Bytes.{bytes_of}
-use Rattle.bench_print.specs.Print.{digit_at, decimal, totals_text, operation_text, answer_text, call_text, wait_text, keys_text, roll_text}
+use Rattle.bench_print.specs.Print.{digit_at, decimal, totals_text, operation_text, answer_text, call_text, wait_text, roll_text}
 
 -- the listing's first two lines and its last one, a call without a point, and a wait
 totals : totals_text (record { entries = 67; refused = 0; waits = 0; calls = 5 }) ≡ bytes_of "entries 67 refused 0 waits 0 calls 5\n"
@@ -24,9 +24,9 @@ unfolding wait_text decimal digit_at
 wait = refl
 
 roll : roll_text (7 ∷ []) ≡ bytes_of "roll 7\n"
-unfolding roll_text keys_text flatten decimal digit_at
+unfolding roll_text decimal digit_at
 roll = refl
 
 empty_roll : roll_text [] ≡ bytes_of "roll\n"
-unfolding roll_text keys_text flatten
+unfolding roll_text
 empty_roll = refl

@@ -1,12 +1,16 @@
 -- What the bench program prints, as bytes, and where it stands in an output.
 use Rattle.std.specs.Prelude.{ℕ, ◌+◌, ◌/◌, ◌%◌, min, max, ◌≡◌, cond, length, leb, eqb}
 use Prim.Native.String.{String}
-use mathlib.Core.List.{List, [], ◌∷◌, ◌++◌, map, flatten}
+use Rattle.std.specs.List.{flat_map}
+use mathlib.Core.List.{List, [], ◌∷◌, ◌++◌}
 use Rattle.std.proofs.lemmas.List.Edits.{sets}
 use Rattle.worker.specs.Worker.{add, remove}
 use Rattle.schedule.specs.declared.Call.{Call}
 use Rattle.schedule.specs.declared.Wait.{Wait}
 use Rattle.schedule.specs.declared.Totals.{Totals}
+use Rattle.bench_print.specs.declared.Output.{Output}
+use Rattle.bench_print.specs.declared.Part.{Part}
+use Rattle.bench_print.specs.declared.Part.TheVariants as part
 use Rattle.bench_input.specs.Bytes.{bytes_of}
 use Rattle.bench_input.specs.Numbers.{digit_zero}
 
@@ -18,6 +22,11 @@ place_behind room at bytes = max at (min (at + bytes) room)
 pub record Printed (text before : List ℕ) (at : ℕ) (after : List ℕ) (next : ℕ) : Type 0 where
   pub bytes : after ≡ sets before at text
   pub place : next ≡ place_behind (length before) at (length text)
+
+-- the same of a lent output: it still lends the same bytes, and the text stands behind what was printed before
+pub record Prints (text : List ℕ) (before after : Output) : Type 0 where
+  pub same_reference : after.bytes.ghost_name ≡ before.bytes.ghost_name
+  pub printed : Printed text before.bytes.now before.len after.bytes.now after.len
 
 -- the byte of a digit
 abbrev pub digit : ℕ → ℕ
@@ -34,6 +43,11 @@ decimal n = digit_at 10000 n ++ digit_at 1000 n ++ digit_at 100 n ++ digit_at 10
 -- a word with a number behind it
 abbrev pub labelled : String → ℕ → List ℕ
 labelled word n = bytes_of word ++ decimal n
+
+-- the parts of a line: texts, and numbers behind texts
+abbrev pub part_text : Part → List ℕ
+part_text (part.Text text) = text.now
+part_text (part.Labelled text n) = text.now ++ decimal n
 
 -- `bad line L`
 unfoldable pub bad_line_text : ℕ → List ℕ
@@ -81,8 +95,8 @@ wait_text wait =
     labelled "wait " wait.time ++ labelled " " wait.node ++ labelled " " wait.worker ++ bytes_of "\n"
 
 -- keys, each behind a space
-unfoldable pub keys_text : List ℕ → List ℕ
-keys_text keys = flatten (map (labelled " ") keys)
+abbrev pub keys_text : List ℕ → List ℕ
+keys_text = flat_map (labelled " ")
 
 -- the roll
 unfoldable pub roll_text : List ℕ → List ℕ

@@ -1,26 +1,25 @@
 -- No output is longer than the words that the bench program has for it.
 use Prim.Native.Nat.{ℕ, suc, ◌+◌, ◌*◌, ◌≤◌}
 use mathlib.Core.Path.{◌≡◌, refl}
-use mathlib.Core.List.{List, [], ◌∷◌, map, flatten}
-use mathlib.Core.Bool.{Bool, true, false, cond}
+use mathlib.Core.List.{List, [], ◌∷◌, flatten}
+use Rattle.std.specs.List.{filter, flat_map}
+use Rattle.std.proofs.lemmas.List.Filters.{length-filter_both}
+use mathlib.Core.Bool.{Bool, not}
 use native.Mathlib.Nat.{mul-suc}
 use native.Mathlib.Omega.{arith}
 use lib.ListN.{length, take, drop, replicate, length-append}
 use lib.Seq.{sets-eq, take-append_seam}
-use lib.Dec.{leb, eqb}
-use borrow.Author.Tests.{eqb-true, leb-true, leb-false}
-use Rattle.worker.specs.Worker.{add, remove}
-use Rattle.worker.specs.Refusals.{Refusal, judged}
-use Rattle.worker.proofs.Laws.{range_bounds}
+use lib.Dec.{leb}
+use Rattle.std.proofs.lemmas.Bool.Decides.{nat_tests}
+use Rattle.worker.specs.Refusals.{Test, refusal_number, judged}
 use Rattle.words.specs.Replies.{Reply, refused, accepted, replied}
 use Rattle.words.specs.Layout.{layout2}
 use Rattle.words.proofs.Bounds.{counts}
-use Rattle.words.proofs.Judged.{judged_refused, judged_accepted}
+use Rattle.words.proofs.Judged.{numbered, judged_numbered, judged_accepted}
 use Rattle.arena.specs.Init.{fresh_words}
 use Rattle.arena.specs.Snapshot.{keys_of}
 use Rattle.arena.proofs.ShortChains.{keys_few}
-use Rattle.arena.specs.Lists.{filter}
-use Rattle.arena.proofs.ListLaws.{filter_shorter}
+use Rattle.arena.specs.Lists as lists
 use Rattle.linear.specs.Entries.{Entry, is_turn}
 use Rattle.linear.specs.History.{totals}
 use Rattle.linear.proofs.Timeline.{fresh_schedule, Schedule, last, arena, sound}
@@ -28,21 +27,17 @@ use Rattle.schedule.specs.declared.Call.{Call}
 use Rattle.schedule.specs.declared.Wait.{Wait}
 use Rattle.schedule.specs.declared.Totals.{Totals}
 use Rattle.schedule.specs.Run.{entries_of, is_operation, count_in, run_refusals, records_of, waits_of, totals_of}
-use Rattle.schedule.proofs.EntryLaws.{entries_count}
+use Rattle.schedule.proofs.EntryLaws.{entries_quotient}
 use Rattle.schedule.proofs.HistoryLaws.{Accepted, run_passed}
 use Rattle.schedule.proofs.Running.{calls_few, waits_few}
-use Rattle.bench_input.specs.Bytes.{bytes_of}
 use Rattle.bench_input.specs.Input.{Reading, planned, bad_line, reading_of}
-use Rattle.bench_print.specs.Print.{Printed, digit_at, decimal, labelled, bad_line_text, refused_text, totals_text, operation_text, answer_text, call_text, wait_text, keys_text, roll_text}
+use Rattle.bench_print.specs.Print.{Printed, digit_at, decimal, labelled, bad_line_text, refused_text, totals_text, operation_text, answer_text, call_text, wait_text, roll_text}
 use Rattle.bench_run.specs.Output.{arena_words, record_count, wait_count, is_wait_of, calls_text, run_text, schedule_text, reading_text, output_of}
+use Rattle.bench_run.proofs.OutputLaws.{text_of}
 
 digit_short : (place n : ℕ) → length (digit_at place n) ≤ 1
 unfolding digit_at
-digit_short place n = go (leb place n) _
-  where
-    go : (there : Bool) (byte : ℕ) → length {A = ℕ} (cond there (byte ∷ []) []) ≤ 1
-    go true byte = omega arith
-    go false byte = omega arith
+digit_short place n = grind (arith, nat_tests)
 
 decimal_short : (n : ℕ) → length (decimal n) ≤ 5
 unfolding decimal
@@ -55,23 +50,13 @@ totals_short t =
     simp length-append
     (omega (arith, decimal_short t.entries, decimal_short t.refused, decimal_short t.waits, decimal_short t.calls))
 
--- one of some texts
-either : (test : Bool) (a b : List ℕ) (most : ℕ) → length a ≤ most → length b ≤ most → length (cond test a b) ≤ most
-either true a b most low high = low
-either false a b most low high = high
-
 operation_short : (operation : ℕ) → length (operation_text operation) ≤ 9
 unfolding operation_text
-operation_short operation =
-    either (eqb operation add) _ _ 9 (omega arith) (either (eqb operation remove) (bytes_of " remove") (bytes_of " contains") 9 (omega
-    arith) (omega arith))
+operation_short operation = grind (arith, nat_tests)
 
 answer_short : (answer : ℕ) → length (answer_text answer) ≤ 5
 unfolding answer_text
-answer_short answer =
-    either (eqb answer 0) (bytes_of " open") _ 5 (omega arith)
-    (either (eqb answer 1) (bytes_of " yes") _ 5 (omega arith)
-    (either (eqb answer 2) (bytes_of " no") (bytes_of " full") 5 (omega arith) (omega arith)))
+answer_short answer = grind (arith, nat_tests)
 
 call_short : (c : Call) → length (call_text c) ≤ 44
 unfolding call_text
@@ -94,8 +79,7 @@ wait_short w = simp length-append (omega (arith, decimal_short w.time, decimal_s
 
 -- texts of a list, none of them longer than some
 texts_short : {A : Type 0} (text : A → List ℕ) (most : ℕ) → ((a : A) → length (text a) ≤ most) → (xs : List A) →
-    length (flatten (map text xs)) ≤ most * length xs
-unfolding flatten
+    length (flat_map text xs) ≤ most * length xs
 texts_short text most short [] = omega arith
 texts_short text most short (x ∷ xs) = rw (length-append, mul-suc) (omega (arith, short x, texts_short text most short xs))
 
@@ -105,23 +89,8 @@ is_from number wait = leb number wait.call
 
 split_waits : (number : ℕ) (waits : List Wait) →
     length (filter (is_wait_of number) waits) + length (filter (is_from (suc number)) waits) ≤ length (filter (is_from number) waits)
-unfolding filter
 split_waits number [] = omega arith
-split_waits number (wait ∷ waits) =
-    go (is_wait_of number wait) (is_from (suc number) wait) (is_from number wait) refl refl refl (split_waits number waits)
-  where
-    go : (own later from : Bool) → is_wait_of number wait ≡ own → is_from (suc number) wait ≡ later → is_from number wait ≡ from →
-        length (filter (is_wait_of number) waits) + length (filter (is_from (suc number)) waits) ≤ length (filter (is_from number) waits) →
-        length (cond own (wait ∷ filter (is_wait_of number) waits) (filter (is_wait_of number) waits))
-        + length (cond later (wait ∷ filter (is_from (suc number)) waits) (filter (is_from (suc number)) waits))
-        ≤ length (cond from (wait ∷ filter (is_from number) waits) (filter (is_from number) waits))
-    go true true from o l f h = absurd (omega (arith, eqb-true wait.call number o, leb-true (suc number) wait.call l))
-    go true false true o l f h = omega arith
-    go true false false o l f h = absurd (omega (arith, eqb-true wait.call number o, leb-false number wait.call f))
-    go false true true o l f h = omega arith
-    go false true false o l f h = absurd (omega (arith, leb-true (suc number) wait.call l, leb-false number wait.call f))
-    go false false true o l f h = omega arith
-    go false false false o l f h = omega arith
+split_waits number (wait ∷ waits) = grind (arith, nat_tests, split_waits number waits)
 
 calls_from : (waits : List Wait) (number : ℕ) (calls : List Call) →
     length (calls_text waits number calls) ≤ 44 * length calls + 23 * length (filter (is_from number) waits)
@@ -138,25 +107,17 @@ calls_from waits number (call ∷ calls) =
     ))
 
 calls_short : (waits : List Wait) (calls : List Call) → length (calls_text waits 0 calls) ≤ 44 * length calls + 23 * length waits
-calls_short waits calls = omega (arith, calls_from waits 0 calls, filter_shorter (is_from 0) waits)
+calls_short waits calls =
+    omega (arith, calls_from waits 0 calls, length-filter_both (is_from 0) (λ wait. not (is_from 0 wait)) (λ wait. refl) waits)
 
 -- an entry is a start or a turn, and not both
 parted : (entries : List Entry) → count_in is_operation entries + count_in is_turn entries ≤ length entries
-unfolding count_in filter
+unfolding count_in lists.filter
 parted [] = omega arith
-parted (entry ∷ entries) = go (is_operation entry) (is_turn entry) refl refl (parted entries)
-  where
-    go : (starts turns : Bool) → is_operation entry ≡ starts → is_turn entry ≡ turns →
-        count_in is_operation entries + count_in is_turn entries ≤ length entries →
-        length (cond starts (entry ∷ filter is_operation entries) (filter is_operation entries))
-        + length (cond turns (entry ∷ filter is_turn entries) (filter is_turn entries)) ≤ suc (length entries)
-    go true true s t h = absurd (omega (arith, range_bounds 1 3 entry.act s, eqb-true entry.act 0 t))
-    go true false s t h = omega arith
-    go false true s t h = omega arith
-    go false false s t h = omega arith
+parted (entry ∷ entries) = grind (arith, nat_tests, parted entries)
 
 roll_short : (keys : List ℕ) → length (roll_text keys) ≤ 5 + 6 * length keys
-unfolding roll_text keys_text
+unfolding roll_text
 roll_short keys =
     simp length-append
     (omega (arith, texts_short (labelled " ") 6 (λ n. simp length-append (omega (arith, decimal_short n))) keys))
@@ -183,7 +144,7 @@ run_short workers nodes schedule passed =
       calls_few workers nodes schedule passed.counts,
       waits_few workers nodes schedule passed.counts,
       parted (entries_of schedule),
-      entries_count schedule passed.whole,
+      entries_quotient schedule,
       passed.short,
       passed.calls_fit,
       roll_short (keys_of (arena r (last r))),
@@ -196,15 +157,16 @@ schedule_short : (workers nodes : ℕ) (schedule : List ℕ) → length (schedul
 unfolding schedule_text
 schedule_short workers nodes schedule = go (replied refusals []) refl
   where
-    refusals : List Refusal
+    refusals : List Test
     refusals = run_refusals (replicate arena_words 0) workers nodes schedule record_count wait_count
 
     go : (reply : Reply) → reply ≡ replied refusals [] →
-        length (judged refusals refused_text (run_text workers nodes schedule)) ≤ 131072
+        length (judged refusals text_of (run_text workers nodes schedule)) ≤ 131072
     go (refused number) told =
-        rw (judged_refused refusals [] refused_text (run_text workers nodes schedule) told) (omega (arith, refused_short number))
+        rw (judged_numbered refusals [] text_of (run_text workers nodes schedule) told)
+        (omega (arith, refused_short (refusal_number (numbered number))))
     go (accepted values) told =
-        rw (judged_accepted refusals [] refused_text (run_text workers nodes schedule) told)
+        rw (judged_accepted refusals [] text_of (run_text workers nodes schedule) told)
         (run_short workers nodes schedule (run_passed (replicate arena_words 0) workers nodes schedule record_count wait_count [] told))
 
 pub output_fits : (input : List ℕ) → length (output_of input) ≤ 131072

@@ -8,13 +8,16 @@ use lib.ListN.{length, take, drop, replicate, length-replicate}
 use lib.Seq.{length-sets, take-append_seam, take_at}
 use lib.Dec.{ltb}
 use borrow.Author.Tests.{le-ltb}
+use Rattle.std.proofs.lemmas.Bool.Decides.{nat_tests}
 use Rattle.worker.specs.Worker.{started_worker}
-use Rattle.worker.specs.Refusals.{Refusal, judged, no_room}
-use Rattle.worker.specs.declared.report.Turned.{Turned}
-use Rattle.worker.specs.declared.report.Turned.TheVariants as turned
+use Rattle.worker.specs.Refusals.{Test, refusal_number, judged}
+use Rattle.worker.specs.declared.refusal.Refusal.{Refusal}
+use Rattle.worker.specs.declared.report.Step.{Step}
+use Rattle.worker.specs.declared.refusal.Refusal.TheVariants.{NoRoom}
+use Rattle.std.specs.Prelude.{Result, Ok, Err}
 use Rattle.words.specs.Layout.{layout2, node_width, good_counts, total}
 use Rattle.words.specs.Records.{with_worker}
-use Rattle.words.specs.Replies.{refused, accepted, replied}
+use Rattle.words.specs.Replies.{refused, accepted, refusing, reply, replied}
 use Rattle.words.proofs.Bounds.{counts}
 use Rattle.words.proofs.Judged.{judged_refused, judged_accepted, given_values}
 use Rattle.arena.specs.Init.{fresh_words}
@@ -29,13 +32,12 @@ use Rattle.linear.proofs.Timeline.{fresh_schedule, Schedule, last, arena, entry}
 use Rattle.schedule.specs.declared.Call.{Call}
 use Rattle.schedule.specs.declared.Wait.{Wait}
 use Rattle.schedule.specs.declared.Totals.{Totals}
-use Rattle.schedule.specs.declared.Summary.TheVariants as summary
-use Rattle.schedule.specs.Run.{entries_of, is_operation, count_in, is_bad_schedule, run_refusals, run_answer, run_arena, row_after, run_records, run_waits, records_of, waits_of, totals_of, summary_reply}
+use Rattle.schedule.specs.Run.{entries_of, is_operation, count_in, is_bad_schedule, run_refusals, run_answer, run_arena, row_after, run_records, run_waits, records_of, waits_of, totals_of, totals_values}
 use Rattle.schedule.proofs.HistoryLaws.{Accepted, run_passed, told_calls, told_waits}
 use Rattle.schedule.proofs.Running.{calls_few, waits_few}
 use Rattle.history.specs.Rows.{no_call, no_wait}
+use Rattle.bench_input.specs.declared.BadLine.{BadLine}
 use Rattle.bench_input.specs.declared.Plan.{Plan}
-use Rattle.bench_input.specs.declared.Parsed.TheVariants as parsed
 use Rattle.bench_input.specs.Input.{entry_width, Reading, planned, bad_line, reading_of, parsed_of, scheduled}
 use Rattle.bench_input.proofs.PlanLaws.{Fits, planned_sound, planned_words}
 use Rattle.bench_print.specs.Print.{bad_line_text, refused_text, totals_text, roll_text}
@@ -43,20 +45,15 @@ use Rattle.bench_run.proofs.RollLaws.{roll_fits}
 use Rattle.bench_run.specs.Output.{arena_words, record_count, wait_count, calls_text, run_text, schedule_text, reading_text, output_of}
 
 -- no entry changes the number of the words
-judged_length : (rs : List Refusal) (before after : List ℕ) → length after ≡ length before →
-    length (judged rs (λ number. before) after) ≡ length before
+judged_length : (rs : List Test) (before after : List ℕ) → length after ≡ length before →
+    length (judged rs (λ refusal. before) after) ≡ length before
 judged_length [] before after same = same
-judged_length (r ∷ rs) before after same = go r.0 (judged_length rs before after same)
-  where
-    go : (test : Bool) → length (judged rs (λ number. before) after) ≡ length before →
-        length (cond test before (judged rs (λ number. before) after)) ≡ length before
-    go true rest = refl
-    go false rest = rest
+judged_length (r ∷ rs) before after same = grind (arith, nat_tests, judged_length rs before after same)
 
-turned_length : (words : List ℕ) (worker : ℕ) (t : Turned) → length (turned_arena words worker t) ≡ length words
+turned_length : (words : List ℕ) (worker : ℕ) (t : Result Step Refusal) → length (turned_arena words worker t) ≡ length words
 unfolding with_worker
-turned_length words worker (turned.Done step) = rw length-sets (effect_long words step.effect)
-turned_length words worker (turned.Refused number) = refl
+turned_length words worker (Ok step) = rw length-sets (effect_long words step.effect)
+turned_length words worker (Err refusal) = refl
 
 after_length : (words : List ℕ) (x : Entry) → length (after words x) ≡ length words
 unfolding after start_arena turn_arena with_worker
@@ -74,19 +71,23 @@ unfolding arena_at
 arena_length r zero fresh = fresh
 arena_length r (suc time) fresh = after_length (arena r time) (entry r time) ∙ arena_length r time fresh
 
+-- what is printed of a refusal
+abbrev pub text_of : Refusal → List ℕ
+text_of refusal = refused_text (refusal_number refusal)
+
 module _ (workers nodes : ℕ) (schedule : List ℕ) where
   abbrev lent : List ℕ
   lent = replicate arena_words 0
 
-  abbrev refusals : List Refusal
+  abbrev refusals : List Test
   refusals = run_refusals lent workers nodes schedule record_count wait_count
 
-  pub refused_text_lem : {number : ℕ} → refused number ≡ run_answer lent workers nodes schedule record_count wait_count →
-      refused_text number ≡ schedule_text workers nodes schedule
+  pub refused_text_lem : (refusal : Refusal) → refusing refusal ≡ run_answer lent workers nodes schedule record_count wait_count →
+      text_of refusal ≡ schedule_text workers nodes schedule
   unfolding schedule_text run_answer
-  refused_text_lem told = sym (judged_refused refusals _ refused_text (run_text workers nodes schedule) told)
+  refused_text_lem refusal told = sym (judged_refused refusals _ text_of (run_text workers nodes schedule) told)
 
-  module _ (t : Totals) (told : summary_reply (summary.Done t) ≡ run_answer lent workers nodes schedule record_count wait_count) where
+  module _ (t : Totals) (told : reply totals_values (Ok t) ≡ run_answer lent workers nodes schedule record_count wait_count) where
     pub passed : Accepted lent workers nodes schedule record_count wait_count
     unfolding run_answer
     passed = run_passed lent workers nodes schedule record_count wait_count _ told
@@ -97,7 +98,7 @@ module _ (workers nodes : ℕ) (schedule : List ℕ) where
     -- where the run is accepted, its text is printed
     pub done_text : run_text workers nodes schedule ≡ schedule_text workers nodes schedule
     unfolding schedule_text run_answer
-    done_text = sym (judged_accepted refusals _ refused_text (run_text workers nodes schedule) told)
+    done_text = sym (judged_accepted refusals _ text_of (run_text workers nodes schedule) told)
 
     pub totals_are : t ≡ totals_of (totals (fresh_words layout2 workers nodes) (entries_of schedule))
     unfolding run_answer
@@ -115,7 +116,7 @@ module _ (workers nodes : ℕ) (schedule : List ℕ) where
     first_told : {A : Type 0} (records row : List A) → take (length records) (row_after refusals records row) ≡ records
     unfolding row_after run_answer
     first_told records row =
-        ap (take (length records)) (judged_accepted refusals _ (λ number. row) (records ++ drop (length records) row) told)
+        ap (take (length records)) (judged_accepted refusals _ (λ refusal. row) (records ++ drop (length records) row) told)
         ∙ take-append_seam records (drop (length records) row)
 
     -- so the first records of the rows are those of the calls and of the waits, as many as there are
@@ -145,7 +146,7 @@ module _ (workers nodes : ℕ) (schedule : List ℕ) where
     unfolding run_arena run_answer
     arena_are =
         ap (take (total layout2 workers nodes))
-        (judged_accepted refusals _ (λ number. lent) (arena run (last run) ++ drop (total layout2 workers nodes) lent) told)
+        (judged_accepted refusals _ (λ refusal. lent) (arena run (last run) ++ drop (total layout2 workers nodes) lent) told)
         ∙ take_at (arena run (last run)) (drop (total layout2 workers nodes) lent) (total layout2 workers nodes)
         (arena_length run (last run) (fresh_length layout2 workers nodes (omega (arith, counts layout2 workers nodes passed.counts))))
 
@@ -164,23 +165,24 @@ module _ (workers nodes : ℕ) (schedule : List ℕ) where
 
 -- what is printed of a bad line, and of a plan
 module _ (input : List ℕ) where
-  pub bad_text : {line : ℕ} → parsed.BadLine line ≡ parsed_of (reading_of input) → bad_line_text line ≡ output_of input
+  pub bad_text : {bad : BadLine} → Err bad ≡ parsed_of (reading_of input) → bad_line_text bad.0 ≡ output_of input
   unfolding output_of
-  bad_text {line} told = go (reading_of input) told
+  bad_text {bad} told = go (reading_of input) told
     where
-      go : (o : Reading) → parsed.BadLine line ≡ parsed_of o → bad_line_text line ≡ reading_text o
-      go (planned workers nodes entries) e = let z : ◌≡◌ {A = ℕ} 0 1 = cc in absurd (omega arith)
-      go (bad_line number entries) e = let same : line ≡ number = cc in ap bad_line_text same
+      go : (o : Reading) → Err bad ≡ parsed_of o → bad_line_text bad.0 ≡ reading_text o
+      go (planned workers nodes entries) e = cc
+      go (bad_line number entries) e =
+          let same : bad ≡ record { 0 = number } = cc in ap (λ (b : BadLine). bad_line_text b.0) same
 
-  module _ (plan : Plan) (words : List ℕ) (told : parsed.Planned plan ≡ parsed_of (reading_of input))
+  module _ (plan : Plan) (words : List ℕ) (told : Ok plan ≡ parsed_of (reading_of input))
       (written : words ≡ scheduled (replicate 16000 0) (reading_of input)) where
     -- the plan of a reading
-    as_planned : (o : Reading) → parsed.Planned plan ≡ parsed_of o →
+    as_planned : (o : Reading) → Ok plan ≡ parsed_of o →
         (entries : List (List ℕ)) × (o ≡ planned plan.workers plan.nodes entries) × (plan.entries ≡ length entries)
     as_planned (planned workers nodes entries) e =
         let same : plan ≡ record { workers = workers; nodes = nodes; entries = length entries } = cc in
         (entries, rw same, ap (λ (p : Plan). p.entries) same)
-    as_planned (bad_line number entries) e = let z : ◌≡◌ {A = ℕ} 0 1 = cc in absurd (omega arith)
+    as_planned (bad_line number entries) e = absurd cc
 
     pub plan_fits : entry_width * plan.entries ≤ 16000
     plan_fits =
@@ -212,14 +214,14 @@ wide_enough workers nodes good =
 
 pub only_no_room : (input : List ℕ) (workers nodes : ℕ) (entries : List (List ℕ)) → reading_of input ≡ planned workers nodes entries →
     {number : ℕ} → refused number ≡ replied (run_refusals (replicate arena_words 0) workers nodes (flatten entries) record_count wait_count) [] →
-    number ≡ no_room
+    number ≡ refusal_number NoRoom
 unfolding run_refusals
 only_no_room input workers nodes entries plan {number} told =
     let fits = planned_sound input workers nodes entries plan in
     go (ltb record_count (count_in is_operation (entries_of (flatten entries)))) (ltb wait_count (count_in is_turn (entries_of (flatten entries))))
     (rw (fits.0, good_plan entries fits.1, wide_enough workers nodes fits.0) at told)
   where
-    go : (short few : Bool) → refused number ≡ cond short (refused no_room) (cond few (refused no_room) (accepted [])) → number ≡ no_room
+    go : (short few : Bool) → refused number ≡ cond short (refusing NoRoom) (cond few (refusing NoRoom) (accepted [])) → number ≡ refusal_number NoRoom
     go true few e = cc
     go false true e = cc
     go false false e = let z : ◌≡◌ {A = ℕ} 0 1 = cc in absurd (omega arith)

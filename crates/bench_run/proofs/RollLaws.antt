@@ -19,12 +19,6 @@ module _ (words keys : List ℕ) (listed : Listed words keys) where
   count_is : {count : ℕ} → accepted (count ∷ []) ≡ snapshot_answer words (length keys) → count ≡ length (keys_of words)
   count_is {count} told = let same : accepted (count ∷ []) ≡ accepted (length (keys_of words) ∷ []) = told ∙ listed.answer in cc
 
-  -- its first words are the keys
-  pub keys_are : {count : ℕ} → accepted (count ∷ []) ≡ snapshot_answer words (length keys) →
-      take count (snapshot_words words keys) ≡ keys_of words
-  keys_are {count} told =
-      rw (count_is told) (ap (take (length (keys_of words))) listed.words ∙ take-append_seam (keys_of words) (drop (length (keys_of words)) keys))
-
 -- an arena that a list of entries has left
 pub roll_fits : (r : Schedule) (time : ℕ) → Listed (arena r time) (replicate 1024 0)
 roll_fits r time =

@@ -1,11 +1,11 @@
 -- The output of the bench program (document 01: Dagmar's bench program), whole, for an input.
 use Rattle.std.specs.Prelude.{ℕ, suc, Bool, length, replicate, eqb}
-use mathlib.Core.List.{List, [], ◌∷◌, ◌++◌, map, flatten}
-use Rattle.worker.specs.Refusals.{judged}
+use Rattle.std.specs.List.{filter, flat_map}
+use mathlib.Core.List.{List, [], ◌∷◌, ◌++◌, flatten}
+use Rattle.worker.specs.Refusals.{refusal_number, judged}
 use Rattle.words.specs.Layout.{layout2}
 use Rattle.arena.specs.Init.{fresh_words}
 use Rattle.arena.specs.Snapshot.{keys_of}
-use Rattle.arena.specs.Lists.{filter}
 use Rattle.linear.specs.History.{arena_at, totals}
 use Rattle.schedule.specs.declared.Call.{Call}
 use Rattle.schedule.specs.declared.Wait.{Wait}
@@ -29,7 +29,7 @@ abbrev pub is_wait_of : ℕ → Wait → Bool
 is_wait_of number wait = eqb wait.call number
 
 abbrev pub lines_text : List Wait → ℕ → Call → List ℕ
-lines_text waits number call = call_text call ++ flatten (map wait_text (filter (is_wait_of number) waits))
+lines_text waits number call = call_text call ++ flat_map wait_text (filter (is_wait_of number) waits)
 
 -- calls, the first of them with a number
 unfoldable pub calls_text : List Wait → ℕ → List Call → List ℕ
@@ -47,7 +47,8 @@ run_text workers nodes schedule =
 -- a refused run prints its number alone, and that is 8 (`OutputLaws.only_no_room`)
 unfoldable pub schedule_text : ℕ → ℕ → List ℕ → List ℕ
 schedule_text workers nodes schedule =
-    judged (run_refusals (replicate arena_words 0) workers nodes schedule record_count wait_count) refused_text
+    judged (run_refusals (replicate arena_words 0) workers nodes schedule record_count wait_count)
+    (λ refusal. refused_text (refusal_number refusal))
     (run_text workers nodes schedule)
 
 -- `bad line L` and nothing else for a bad line

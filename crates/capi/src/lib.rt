@@ -3,16 +3,19 @@
 
 ghost use Rattle.std.specs.Prelude.{◌≡◌, ◌/◌, length};
 ghost use Rattle.words.specs.Layout.{layout2};
+ghost use Rattle.words.specs.Replies.{reply};
 ghost use Rattle.arena.specs.Init.{fresh_words, init_answer, init_arena};
 ghost use Rattle.arena.specs.Start.{start_answer, start_arena};
 ghost use Rattle.arena.specs.Snapshot.{snapshot_answer, snapshot_words};
 ghost use Rattle.lazy.specs.FindFree.{find_free_answer};
 ghost use Rattle.lazy.specs.Turn.{turn_answer, turn_arena};
 ghost use Rattle.linear.specs.Linearizable.{Linearizable};
-ghost use Rattle.schedule.specs.Run.{entries_of, call_width, wait_width, summary_reply, run_answer, run_arena, run_call_words, run_wait_words};
+ghost use Rattle.schedule.specs.Run.{entries_of, call_width, wait_width, totals_values, run_answer, run_arena, run_call_words, run_wait_words};
 ghost use Rattle.capi.specs.Number.{reply_number, unreported, Reads, bare, values_or};
 
-use schedule::Summary;
+use number::number;
+use schedule::Totals;
+use worker::Refusal;
 
 mod number;
 
@@ -22,7 +25,7 @@ pub extern "C" fn lazy_list_init(arena: &mut [u16], layout: u16, workers: u16, n
     ensures number { result ≡ reply_number (init_answer arena.old layout workers nodes) }
     ensures words { arena.new ≡ init_arena arena.old layout workers nodes }
 {
-    number::of_verdict(arena::init(arena, layout, workers, nodes))
+    number(arena::init(arena, layout, workers, nodes))
 }
 
 // Starts a call on a worker; an add in layout 2 carries the length of its label, every other call 0.
@@ -37,7 +40,7 @@ pub extern "C" fn lazy_list_start(
     ensures number { result ≡ reply_number (start_answer arena.old worker operation key length) }
     ensures words { arena.new ≡ start_arena arena.old worker operation key length }
 {
-    number::of_verdict(arena::start(arena, worker, operation, key, length))
+    number(arena::start(arena, worker, operation, key, length))
 }
 
 // Gives a worker a turn.
@@ -47,7 +50,7 @@ pub extern "C" fn lazy_list_turn(arena: &mut [u16], worker: u16) -> u64
     ensures read { Reads result (turn_answer arena.old worker) }
     ensures words { arena.new ≡ turn_arena arena.old worker }
 {
-    number::of_outcome(lazy::turn(arena, worker))
+    number(lazy::turn(arena, worker))
 }
 
 // The lowest-numbered free node, and how many next words the search for it read.
@@ -56,7 +59,7 @@ pub extern "C" fn lazy_list_find_free(arena: &[u16]) -> u64
     ensures number { result ≡ reply_number (unreported (find_free_answer arena.now)) }
     ensures read { Reads result (unreported (find_free_answer arena.now)) }
 {
-    number::of_search(lazy::find_free(arena))
+    number(lazy::find_free(arena))
 }
 
 // The keys of the set, rising.
@@ -66,7 +69,7 @@ pub extern "C" fn lazy_list_snapshot(arena: &[u16], keys: &mut [u16]) -> u64
     ensures read { Reads result (unreported (snapshot_answer arena.now (length keys.old))) }
     ensures words { keys.new ≡ snapshot_words arena.now keys.old }
 {
-    number::of_listing(arena::snapshot(arena, keys))
+    number(arena::snapshot(arena, keys))
 }
 
 // Runs a schedule on an arena that it lays itself; the totals are entries, refused, waits, calls.
@@ -94,13 +97,13 @@ pub extern "C" fn lazy_list_run(
 {
     let summary = schedule::run(arena, workers, nodes, schedule, history, waits);
     write_totals(totals, summary);
-    number::of_summary(summary)
+    number(summary)
 }
 
-fn write_totals(totals: &mut [u16; 4], summary: Summary)
-    ensures { totals.new ≡ values_or totals.old (summary_reply summary) }
+fn write_totals(totals: &mut [u16; 4], summary: Result<Totals, Refusal>)
+    ensures { totals.new ≡ values_or totals.old (reply totals_values summary) }
 {
-    if let Summary::Done(done) = summary {
+    if let Ok(done) = summary {
         *totals = [done.entries, done.refused, done.waits, done.calls];
     }
 }

@@ -1,183 +1,175 @@
 // Layout 2: a node has a length, which an add carries.
-use crate::init;
-use crate::print::{show, show_words};
+use crate::calls::{Call, show_begin, show_call, show_init, show_start, show_turns};
+use crate::fresh::{first, fresh, rewritten};
+use crate::print::{Out, Reply, show_part, show_words};
 use crate::reuse::keys;
-use crate::starts::start;
-use crate::turns::{add, call, turns};
+use std::fmt;
+use std::fmt::Write;
 use words::layout::{LAYOUT_1, LAYOUT_2};
-use words::put;
 use worker::Worker;
 
-pub fn inits() {
-    let mut large = [7u16; 5192];
-    init(
-        b"layout 2: init 8 1024, 5192 words",
-        &mut large,
-        5192,
-        LAYOUT_2,
-        8,
-        1024,
-    );
-    init(
-        b"layout 2: init 8 1024, 5191 words",
-        &mut large,
-        5191,
-        LAYOUT_2,
-        8,
-        1024,
-    );
-    let mut more = [7u16; 33];
-    init(b"layout 0: init 1 3", &mut more, 33, 0, 1, 3);
-    init(b"layout 3: init 1 3", &mut more, 33, 3, 1, 3);
-    init(
-        b"layout 65535: init 1 3, no words",
-        &mut more,
-        0,
-        65535,
-        1,
-        3,
-    );
-    init(
-        b"layout 2: init 1 3, 33 words",
-        &mut more,
-        33,
-        LAYOUT_2,
-        1,
-        3,
-    );
-    show_words(b"they are:", &more);
+pub fn inits(out: &mut Out) -> fmt::Result {
+    let mut large = [7; 5192];
+    for (text, room) in [
+        ("layout 2: init 8 1024, 5192 words", 5192),
+        ("layout 2: init 8 1024, 5191 words", 5191),
+    ] {
+        show_init(out, text, first(&mut large, room), LAYOUT_2, 8, 1024)?;
+    }
+    small_inits(out)
 }
 
-pub fn headers() {
-    header(b"layout 2: start, header word 0 is 0", 0, 0, 31);
-    header(b"layout 2: start, header word 0 is 1", 0, 1, 31);
-    header(b"layout 2: start, header word 0 is 3", 0, 3, 31);
-    header(b"layout 2: start, header word 5 is 28", 5, 28, 31);
-    header(b"layout 2: start, header word 5 is 32", 5, 32, 31);
-    header(b"layout 2: start, 30 words", 0, 2, 30);
-    header(b"layout 2: start, 31 words", 0, 2, 31);
+fn small_inits(out: &mut Out) -> fmt::Result {
+    let mut more = [7; 33];
+    for (text, room, layout) in [
+        ("layout 0: init 1 3", 33, 0),
+        ("layout 3: init 1 3", 33, 3),
+        ("layout 65535: init 1 3, no words", 0, 65535),
+        ("layout 2: init 1 3, 33 words", 33, LAYOUT_2),
+    ] {
+        show_init(out, text, first(&mut more, room), layout, 1, 3)?;
+    }
+    show_words(out, "they are:", &more)
 }
 
-// A start on the first words of a fresh arena, with one header word written anew.
-fn header(text: &[u8], at: usize, word: u16, room: usize) {
-    let mut arena = fresh(LAYOUT_2);
-    put(&mut arena, at, word);
-    start(text, &mut arena, room, 1);
+// Starts on the first words of a fresh arena, with one header word written anew.
+pub fn headers(out: &mut Out) -> fmt::Result {
+    for (at, word) in [(0, 0), (0, 1), (0, 3), (5, 28), (5, 32)] {
+        let mut arena = rewritten(one_worker(LAYOUT_2), &[(at, word)]);
+        let started = Call::add(5).of(1).start(&mut arena);
+        writeln!(
+            out,
+            "layout 2: start, header word {at} is {word}: {}",
+            Reply(started)
+        )?;
+    }
+    short(out)
+}
+
+// A start on the first words of a fresh arena.
+fn short(out: &mut Out) -> fmt::Result {
+    let mut arena = one_worker(LAYOUT_2);
+    for (text, room) in [
+        ("layout 2: start, 30 words", 30),
+        ("layout 2: start, 31 words", 31),
+    ] {
+        show_start(out, text, first(&mut arena, room), Call::add(5).of(1))?;
+    }
+    Ok(())
 }
 
 // One worker and three nodes; of layout 1 they take 28 of the words, of layout 2 all.
-fn fresh(layout: u16) -> [u16; 31] {
-    let mut arena = [7u16; 31];
-    arena::init(&mut arena, layout, 1, 3);
-    arena
-}
-
-pub fn lengths() {
-    length(b"layout 2: add 5 of 0", LAYOUT_2, Worker::ADD, 5, 0);
-    length(b"layout 2: add 5 of 1", LAYOUT_2, Worker::ADD, 5, 1);
-    length(b"layout 2: add 1 of 65534", LAYOUT_2, Worker::ADD, 1, 65534);
-    length(b"layout 2: add 1 of 65535", LAYOUT_2, Worker::ADD, 1, 65535);
-    length(b"layout 2: add 2 of 65534", LAYOUT_2, Worker::ADD, 2, 65534);
-    length(b"layout 2: add 65534 of 1", LAYOUT_2, Worker::ADD, 65534, 1);
-    length(b"layout 2: add 65534 of 2", LAYOUT_2, Worker::ADD, 65534, 2);
-    length(
-        b"layout 2: add 65534 of 65534",
-        LAYOUT_2,
-        Worker::ADD,
-        65534,
-        65534,
-    );
-    length(b"layout 2: add 0 of 1", LAYOUT_2, Worker::ADD, 0, 1);
-    length(b"layout 2: remove 5 of 0", LAYOUT_2, Worker::REMOVE, 5, 0);
-    length(b"layout 2: remove 5 of 1", LAYOUT_2, Worker::REMOVE, 5, 1);
-    length(
-        b"layout 2: contains 5 of 0",
-        LAYOUT_2,
-        Worker::CONTAINS,
-        5,
-        0,
-    );
-    length(
-        b"layout 2: contains 5 of 65535",
-        LAYOUT_2,
-        Worker::CONTAINS,
-        5,
-        65535,
-    );
-    length(b"layout 1: add 5 of 1", LAYOUT_1, Worker::ADD, 5, 1);
-    length(b"layout 1: remove 5 of 1", LAYOUT_1, Worker::REMOVE, 5, 1);
-    length(
-        b"layout 1: contains 5 of 1",
-        LAYOUT_1,
-        Worker::CONTAINS,
-        5,
-        1,
-    );
+fn one_worker(layout: u16) -> [u16; 31] {
+    fresh(layout, 1, 3)
 }
 
 // A start of worker 0, and its record then.
-fn length(text: &[u8], layout: u16, operation: u16, key: u16, length: u16) {
-    let mut arena = fresh(layout);
-    show(text, arena::start(&mut arena, 0, operation, key, length));
-    show_words(b"  worker", &arena[8..16]);
+pub fn lengths(out: &mut Out) -> fmt::Result {
+    for (text, layout, call) in [
+        ("layout 2: add 5 of 0", LAYOUT_2, Call::add(5)),
+        ("layout 2: add 5 of 1", LAYOUT_2, Call::add(5).of(1)),
+        ("layout 2: add 1 of 65534", LAYOUT_2, Call::add(1).of(65534)),
+        ("layout 2: add 1 of 65535", LAYOUT_2, Call::add(1).of(65535)),
+        ("layout 2: add 2 of 65534", LAYOUT_2, Call::add(2).of(65534)),
+        ("layout 2: add 65534 of 1", LAYOUT_2, Call::add(65534).of(1)),
+        ("layout 2: add 65534 of 2", LAYOUT_2, Call::add(65534).of(2)),
+        (
+            "layout 2: add 65534 of 65534",
+            LAYOUT_2,
+            Call::add(65534).of(65534),
+        ),
+        ("layout 2: add 0 of 1", LAYOUT_2, Call::add(0).of(1)),
+        ("layout 2: remove 5 of 0", LAYOUT_2, Call::remove(5)),
+        ("layout 2: remove 5 of 1", LAYOUT_2, Call::remove(5).of(1)),
+        ("layout 2: contains 5 of 0", LAYOUT_2, Call::contains(5)),
+        (
+            "layout 2: contains 5 of 65535",
+            LAYOUT_2,
+            Call::contains(5).of(65535),
+        ),
+        ("layout 1: add 5 of 1", LAYOUT_1, Call::add(5).of(1)),
+        ("layout 1: remove 5 of 1", LAYOUT_1, Call::remove(5).of(1)),
+        (
+            "layout 1: contains 5 of 1",
+            LAYOUT_1,
+            Call::contains(5).of(1),
+        ),
+    ] {
+        let mut arena = one_worker(layout);
+        show_start(out, text, &mut arena, call)?;
+        show_part(out, "  worker", &arena, 8..16)?;
+    }
+    Ok(())
 }
 
 // The worker carries the length until its add finishes.
-pub fn carried() {
-    let mut arena = fresh(LAYOUT_2);
-    arena::start(&mut arena, 0, Worker::ADD, 5, 3);
-    turns(b"carried: add 5 of 3 begins:", &mut arena, 0, 10);
-    show_words(b"  worker", &arena[8..16]);
-    show_words(b"  node 2", &arena[26..31]);
-    show(
-        b"carried: add 6 of 0",
-        arena::start(&mut arena, 0, Worker::ADD, 6, 0),
-    );
-    turns(b"carried: add 5 of 3 ends:", &mut arena, 0, 4);
-    show_words(b"  worker", &arena[8..16]);
-    show_words(b"  node 2", &arena[26..31]);
+pub fn carried(out: &mut Out) -> fmt::Result {
+    let mut arena = one_worker(LAYOUT_2);
+    show_begin(
+        out,
+        "carried: add 5 of 3 begins",
+        &mut arena,
+        Call::add(5).of(3),
+        10,
+    )?;
+    show_worker_and_node(out, &arena)?;
+    show_start(out, "carried: add 6 of 0", &mut arena, Call::add(6))?;
+    show_turns(out, "carried: add 5 of 3 ends", &mut arena, 0, 4)?;
+    show_worker_and_node(out, &arena)
+}
+
+fn show_worker_and_node(out: &mut Out, arena: &[u16; 31]) -> fmt::Result {
+    show_part(out, "  worker", arena, 8..16)?;
+    show_part(out, "  node 2", arena, 26..31)
 }
 
 // A removed node keeps its length until it is taken again.
-pub fn taken_again() {
-    let mut arena = fresh(LAYOUT_2);
-    add(b"taken: add 5 of 3,", &mut arena, 5, 3);
-    show_words(b"  node 2", &arena[26..31]);
-    add(b"taken: add 5 of 9,", &mut arena, 5, 9);
-    show_words(b"  node 2", &arena[26..31]);
-    call(b"taken: contains 5,", &mut arena, 0, Worker::CONTAINS, 5);
-    call(b"taken: remove 5,", &mut arena, 0, Worker::REMOVE, 5);
-    show_words(b"  node 2", &arena[26..31]);
-    add(b"taken: add 5 of 2,", &mut arena, 5, 2);
-    show_words(b"  node 2", &arena[26..31]);
+pub fn taken_again(out: &mut Out) -> fmt::Result {
+    let mut arena = one_worker(LAYOUT_2);
+    show_call(out, "taken: add 5 of 3", &mut arena, Call::add(5).of(3))?;
+    show_part(out, "  node 2", &arena, 26..31)?;
+    show_call(out, "taken: add 5 of 9", &mut arena, Call::add(5).of(9))?;
+    show_part(out, "  node 2", &arena, 26..31)?;
+    show_call(out, "taken: contains 5", &mut arena, Call::contains(5))?;
+    show_call(out, "taken: remove 5", &mut arena, Call::remove(5))?;
+    show_part(out, "  node 2", &arena, 26..31)?;
+    show_call(out, "taken: add 5 of 2", &mut arena, Call::add(5).of(2))?;
+    show_part(out, "  node 2", &arena, 26..31)
 }
 
 // Two nodes besides Head and Tail, the later one first on the chain.
-pub fn chained() {
-    let mut arena = [0u16; 36];
-    arena::init(&mut arena, LAYOUT_2, 1, 4);
-    add(b"chained: add 9 of 65526,", &mut arena, 9, 65526);
-    add(b"chained: add 5 of 4,", &mut arena, 5, 4);
-    add(b"chained: add 7 of 1,", &mut arena, 7, 1);
-    show_words(b"  nodes", &arena[16..36]);
-    keys(b"chained: snapshot", &arena);
+pub fn chained(out: &mut Out) -> fmt::Result {
+    let mut arena: [u16; 36] = fresh(LAYOUT_2, 1, 4);
+    show_call(
+        out,
+        "chained: add 9 of 65526",
+        &mut arena,
+        Call::add(9).of(65526),
+    )?;
+    show_call(out, "chained: add 5 of 4", &mut arena, Call::add(5).of(4))?;
+    show_call(out, "chained: add 7 of 1", &mut arena, Call::add(7).of(1))?;
+    show_part(out, "  nodes", &arena, 16..36)?;
+    keys(out, "chained: snapshot", &arena)
 }
 
 // Stage 14 writes the length as it stands in the worker's record, and on layout 1 writes none.
-pub fn written() {
-    fill(b"written: layout 2:", LAYOUT_2);
-    fill(b"written: layout 1:", LAYOUT_1);
-}
-
-fn fill(text: &[u8], layout: u16) {
-    let mut arena = fresh(layout);
-    arena[8] = 14;
-    arena[9] = Worker::ADD;
-    arena[10] = 5;
-    arena[11] = 0;
-    arena[12] = 1;
-    arena[15] = 65535;
-    turns(text, &mut arena, 0, 1);
-    show_words(b"  worker", &arena[8..16]);
-    show_words(b"  the words behind", &arena[16..31]);
+pub fn written(out: &mut Out) -> fmt::Result {
+    for (text, layout) in [
+        ("written: layout 2", LAYOUT_2),
+        ("written: layout 1", LAYOUT_1),
+    ] {
+        let record = [
+            (8, 14),
+            (9, Worker::ADD),
+            (10, 5),
+            (11, 0),
+            (12, 1),
+            (15, 65535),
+        ];
+        let mut arena = rewritten(one_worker(layout), &record);
+        show_turns(out, text, &mut arena, 0, 1)?;
+        show_part(out, "  worker", &arena, 8..16)?;
+        show_part(out, "  the words behind", &arena, 16..31)?;
+    }
+    Ok(())
 }

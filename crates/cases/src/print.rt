@@ -1,76 +1,108 @@
-// Lines of output: a text, what was replied, words.
-use arena::Listing;
-use lazy::Search;
-use words::Verdict;
-use worker::Free;
+// Lines of output: what was replied, words.
+use lazy::Found;
+use std::fmt;
+use std::fmt::Write;
+use std::ops::Range;
+use worker::{Answer, Refusal, Report};
 
-pub fn show(text: &[u8], verdict: Verdict) {
-    io::write_all(1, text);
-    match verdict {
-        Verdict::Accepted => {
-            io::write_all(1, b": accepted\n");
+// Standard output, by the crate io: std's own rests on two more functions of C's library.
+#[derive(Drop)]
+pub struct Out;
+
+impl fmt::Write for Out {
+    fn write_str(&mut self, text: &str) -> fmt::Result {
+        io::write_all(1, text.as_bytes());
+        Ok(())
+    }
+}
+
+// A line: a text, and words.
+pub fn show_words(out: &mut Out, text: &str, words: &[u16]) -> fmt::Result {
+    writeln!(out, "{text}{}", Words(words))
+}
+
+// The same of some of the words, or of none where they are not all there.
+pub fn show_part(out: &mut Out, text: &str, words: &[u16], part: Range<usize>) -> fmt::Result {
+    show_words(out, text, words.get(part).unwrap_or(&[]))
+}
+
+// A text, the reply to a snapshot, and below it the words lent for its keys.
+pub fn show_keys(
+    out: &mut Out,
+    text: &str,
+    count: Result<u16, Refusal>,
+    lent: &[u16],
+) -> fmt::Result {
+    writeln!(out, "{text}: {}", Reply(count))?;
+    show_words(out, "  lent words:", lent)
+}
+
+// Words in a row, each behind a space.
+#[derive(Clone, Copy)]
+pub struct Words<'a>(pub &'a [u16]);
+
+impl fmt::Display for Words<'_> {
+    fn fmt<W: fmt::Write>(&self, f: &mut fmt::Formatter<W>) -> fmt::Result {
+        for word in self.0 {
+            write!(f, " {word}")?;
         }
-        Verdict::Refused(number) => show_refused(number),
+        Ok(())
     }
 }
 
-pub fn show_listing(text: &[u8], listing: Listing, keys: &[u16]) {
-    io::write_all(1, text);
-    match listing {
-        Listing::Keys(count) => {
-            io::write_all(1, b": keys");
-            show_word(count);
-            end_line();
+// The number of a refusal, or what was asked for.
+#[derive(Clone, Copy)]
+pub struct Reply<T>(pub Result<T, Refusal>);
+
+impl<T: Given> fmt::Display for Reply<T> {
+    fn fmt<W: fmt::Write>(&self, f: &mut fmt::Formatter<W>) -> fmt::Result {
+        match &self.0 {
+            Ok(given) => given.print(f),
+            Err(refusal) => write!(f, "refused {}", u16::from(*refusal)),
         }
-        Listing::Refused(number) => show_refused(number),
     }
-    show_words(b"  lent words:", keys);
 }
 
-pub fn show_search(text: &[u8], search: Search) {
-    io::write_all(1, text);
-    match search {
-        Search::Done(found) => {
-            let free = found.free;
-            let reads = found.reads;
-            match free {
-                Free::Node(node) => {
-                    io::write_all(1, b": node");
-                    show_word(node);
-                }
-                Free::None => {
-                    io::write_all(1, b": none");
-                }
-            }
-            io::write_all(1, b", next words read");
-            show_word(reads);
-            end_line();
+// What a reply gives that is no refusal.
+pub trait Given {
+    fn print<W: fmt::Write>(&self, f: &mut fmt::Formatter<W>) -> fmt::Result;
+}
+
+// An arena laid, or a call started.
+impl Given for () {
+    fn print<W: fmt::Write>(&self, f: &mut fmt::Formatter<W>) -> fmt::Result {
+        f.write_str("accepted")
+    }
+}
+
+// How many keys a snapshot lists.
+impl Given for u16 {
+    fn print<W: fmt::Write>(&self, f: &mut fmt::Formatter<W>) -> fmt::Result {
+        write!(f, "keys {self}")
+    }
+}
+
+impl Given for Found {
+    fn print<W: fmt::Write>(&self, f: &mut fmt::Formatter<W>) -> fmt::Result {
+        match self.free {
+            Some(node) => write!(f, "node {node}")?,
+            None => f.write_str("none")?,
         }
-        Search::Refused(number) => show_refused(number),
+        write!(f, ", next words read {}", self.reads)
     }
 }
 
-pub fn show_words(text: &[u8], words: &[u16]) {
-    io::write_all(1, text);
-    let mut i = 0;
-    while i < words.len() {
-        show_word(words[i]);
-        i += 1;
+impl Given for Report {
+    fn print<W: fmt::Write>(&self, f: &mut fmt::Formatter<W>) -> fmt::Result {
+        match self {
+            Report::Idle => f.write_str("idle"),
+            Report::Moved(stage) => write!(f, "moved {stage}"),
+            Report::Waits(node, worker) => write!(f, "waits {node} {worker}"),
+            Report::Finished(answer) => f.write_str(match answer {
+                Answer::Yes => "finished yes",
+                Answer::No => "finished no",
+                Answer::Full => "finished full",
+            }),
+        }
     }
-    end_line();
-}
-
-pub fn show_word(word: u16) {
-    io::write_all(1, b" ");
-    io::print_decimal(1, word as u64);
-}
-
-pub fn end_line() {
-    io::write_all(1, b"\n");
-}
-
-fn show_refused(number: u16) {
-    io::write_all(1, b": refused");
-    show_word(number);
-    end_line();
 }

@@ -1,61 +1,81 @@
-// Starts on arenas that are short, or whose header or record is damaged.
-use crate::fresh;
-use crate::print::{show, show_words};
-use worker::Worker;
+// Fresh arenas, and starts on arenas that are short, or whose header or record is damaged.
+use crate::calls::{Call, show_init, show_start};
+use crate::fresh::{first, fresh, rewritten};
+use crate::print::{Out, Reply, show_part, show_words};
+use std::fmt;
+use std::fmt::Write;
+use words::layout::LAYOUT_1;
 
-pub fn headers() {
-    header(b"start, header word 0 is 2", 0, 2, 28);
-    header(b"start, header word 1 is 2", 1, 2, 28);
-    header(b"start, header word 2 is 4", 2, 4, 28);
-    header(b"start, header word 3 is 9", 3, 9, 28);
-    header(b"start, header word 4 is 17", 4, 17, 28);
-    header(b"start, header word 5 is 27", 5, 27, 28);
-    header(b"start, header word 5 is 29", 5, 29, 28);
-    header(b"start, header word 6 is 1", 6, 1, 28);
-    header(b"start, header word 7 is 1", 7, 1, 28);
-    header(b"start, 27 words", 0, 1, 27);
-    header(b"start, 7 words", 0, 1, 7);
-    header(b"start, no words", 0, 1, 0);
-}
-
-// A start on the first words of a fresh arena, with one header word written anew.
-fn header(text: &[u8], at: usize, word: u16, room: usize) {
-    let mut words = fresh();
-    words::put(&mut words, at, word);
-    start(text, &mut words, room, 0);
-}
-
-// An add of worker 0 on the first of the words.
-pub fn start(text: &[u8], words: &mut [u16], room: usize, length: u16) {
-    if room <= words.len() {
-        show(
-            text,
-            arena::start(&mut words[0..room], 0, Worker::ADD, 5, length),
-        );
+pub fn inits(out: &mut Out) -> fmt::Result {
+    let mut large = [7; 4168];
+    for (text, room, workers, nodes) in [
+        ("init 8 1024, 4168 words", 4168, 8, 1024),
+        ("init 8 1024, 4167 words", 4167, 8, 1024),
+        ("init 8 1025", 4168, 8, 1025),
+        ("init 0 3", 4168, 0, 3),
+    ] {
+        show_init(out, text, first(&mut large, room), LAYOUT_1, workers, nodes)?;
     }
+    let mut few = [7; 3];
+    show_init(out, "init 9 2, 3 words", &mut few, LAYOUT_1, 9, 2)?;
+    show_init(out, "init 1 3, 3 words", &mut few, LAYOUT_1, 1, 3)?;
+    show_words(out, "they stay:", &few)?;
+    let mut more = [7; 30];
+    show_init(out, "init 1 3, 30 words", &mut more, LAYOUT_1, 1, 3)?;
+    show_words(out, "they are:", &more)
 }
 
-pub fn records() {
-    record(b"start of worker 1", 0, 1, Worker::ADD, 5);
-    record(
-        b"start of worker 65535 with key 0",
-        0,
-        65535,
-        Worker::ADD,
-        0,
-    );
-    record(b"start at stage 26 with key 0", 26, 0, Worker::ADD, 0);
-    record(b"start at stage 25 with key 0", 25, 0, Worker::ADD, 0);
-    record(b"start of operation 0", 0, 0, 0, 5);
-    record(b"start of operation 4", 0, 0, 4, 5);
-    record(b"start remove 1", 0, 0, Worker::REMOVE, 1);
-    record(b"start contains 65534", 0, 0, Worker::CONTAINS, 65534);
+pub fn headers(out: &mut Out) -> fmt::Result {
+    for (at, word) in [
+        (0, 2),
+        (1, 2),
+        (2, 4),
+        (3, 9),
+        (4, 17),
+        (5, 27),
+        (5, 29),
+        (6, 1),
+        (7, 1),
+    ] {
+        let mut arena: [u16; 28] = rewritten(fresh(LAYOUT_1, 1, 3), &[(at, word)]);
+        let started = Call::add(5).start(&mut arena);
+        writeln!(out, "start, header word {at} is {word}: {}", Reply(started))?;
+    }
+    short(out)
+}
+
+// An add on the first words of a fresh arena.
+fn short(out: &mut Out) -> fmt::Result {
+    let mut arena: [u16; 28] = fresh(LAYOUT_1, 1, 3);
+    for (text, room) in [
+        ("start, 27 words", 27),
+        ("start, 7 words", 7),
+        ("start, no words", 0),
+    ] {
+        show_start(out, text, first(&mut arena, room), Call::add(5))?;
+    }
+    Ok(())
 }
 
 // A start where worker 0 stands at a stage; then its record.
-fn record(text: &[u8], stage: u16, number: u16, operation: u16, key: u16) {
-    let mut words = fresh();
-    words::put(&mut words, 8, stage);
-    show(text, arena::start(&mut words, number, operation, key, 0));
-    show_words(b"  record of worker 0:", &words[8..16]);
+pub fn records(out: &mut Out) -> fmt::Result {
+    for (text, stage, call) in [
+        ("start of worker 1", 0, Call::add(5).by(1)),
+        (
+            "start of worker 65535 with key 0",
+            0,
+            Call::add(0).by(65535),
+        ),
+        ("start at stage 26 with key 0", 26, Call::add(0)),
+        ("start at stage 25 with key 0", 25, Call::add(0)),
+        ("start of operation 0", 0, Call::new(0, 5)),
+        ("start of operation 4", 0, Call::new(4, 5)),
+        ("start remove 1", 0, Call::remove(1)),
+        ("start contains 65534", 0, Call::contains(65534)),
+    ] {
+        let mut arena: [u16; 28] = rewritten(fresh(LAYOUT_1, 1, 3), &[(8, stage)]);
+        show_start(out, text, &mut arena, call)?;
+        show_part(out, "  record of worker 0:", &arena, 8..16)?;
+    }
+    Ok(())
 }

@@ -12,7 +12,7 @@ use native.Mathlib.Nat.{le_refl}
 use lib.ListN.{replicate, length-replicate}
 use lib.Dec.{ltb}
 use borrow.Author.Tests.{eqb-true, ne_eqb, ltb-true}
-use Rattle.worker.specs.declared.report.Free.TheVariants as free
+use Rattle.std.specs.Prelude.{Some, None}
 use Rattle.words.specs.Layout.{nodes_of}
 use Rattle.arena.specs.Lists.{Pairs}
 use Rattle.arena.proofs.ListLaws.{in_filter, from_filter, pairs_filter}
@@ -78,7 +78,7 @@ module _ (next : ℕ → ℕ) (count : ℕ) where
 
   module _ (roots : List ℕ) where
     -- the lowest free node is free, and no lower one is
-    pub lowest_found : {node : ℕ} → lowest_free next count roots ≡ free.Node node →
+    pub lowest_found : {node : ℕ} → lowest_free next count roots ≡ Some node →
         IsFree next count roots node × ((lower : ℕ) → lower < node → IsFree next count roots lower → ⊥)
     unfolding lowest_free
     lowest_found {node} e =
@@ -86,7 +86,7 @@ module _ (next : ℕ → ℕ) (count : ℕ) where
         (is_free roots node (omega arith) found.2, λ lower h. not_free_lem roots lower (found.3 lower (omega arith) h))
 
     -- where there is none, no node is free
-    pub lowest_none : lowest_free next count roots ≡ free.None → (node : ℕ) → IsFree next count roots node → ⊥
+    pub lowest_none : lowest_free next count roots ≡ None → (node : ℕ) → IsFree next count roots node → ⊥
     unfolding lowest_free
     lowest_none e node free = not_free_lem roots node (none_from (reached next count roots) count 0 e node (omega arith) (omega (arith, free.below))) free
 

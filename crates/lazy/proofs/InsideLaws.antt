@@ -6,13 +6,12 @@ use mathlib.Core.List.{List}
 use mathlib.Core.Bool.{Bool, true, false, cond}
 use native.Mathlib.Omega.{arith}
 use lib.Dec.{eqb}
-use Rattle.worker.specs.declared.report.Free.{Free}
-use Rattle.worker.specs.declared.report.Free.TheVariants as free
+use Rattle.std.specs.Prelude.{Option, Some, None}
+use Rattle.worker.specs.declared.refusal.Refusal.{Refusal}
 use Rattle.worker.specs.declared.report.Step.{Step}
 use Rattle.worker.specs.declared.report.Effect.{Effect}
 use Rattle.worker.specs.declared.report.Effect.TheVariants as effect
-use Rattle.worker.specs.declared.report.Turned.{Turned}
-use Rattle.worker.specs.declared.report.Turned.TheVariants as turned
+use Rattle.std.specs.Prelude.{Result, Ok, Err}
 use Rattle.worker.proofs.EffectLaws.{EffectBelow, FreeBelow, done_below}
 use Rattle.words.specs.Layout.{word, layout_of, workers_of, nodes_of, nodes_from_of, total_of, node_width, node_from, node_next, node_mark, node_owner}
 use Rattle.words.specs.Records.{worker_at, Outside}
@@ -26,15 +25,15 @@ use Rattle.lazy.proofs.FreeLaws.{lowest_found}
 use Rattle.lazy.proofs.TurnLaws.{turn_leaves, turn_accepted}
 
 -- the node of a turn's effect is below N
-pub effect_below : (arena : List ℕ) (worker : ℕ) {step : Step} → turn_on arena worker ≡ turned.Done step → EffectBelow (nodes_of arena) step.effect
+pub effect_below : (arena : List ℕ) (worker : ℕ) {step : Step} → turn_on arena worker ≡ Ok step → EffectBelow (nodes_of arena) step.effect
 unfolding seen_by seen_of
 effect_below arena worker e =
     done_below (worker_at arena worker) (suc worker) (seen_by arena (worker_at arena worker)) (turn_accepted arena worker e).done
     (go (eqb (worker_at arena worker).stage 14) (found_in arena).free refl)
   where
-    go : (t : Bool) (found : Free) → (found_in arena).free ≡ found → FreeBelow (nodes_of arena) (cond t found free.None)
-    go true free.None same = tt
-    go true (free.Node node) same = (lowest_found (next_in arena) (nodes_of arena) (roots_in arena) same).0.below
+    go : (t : Bool) (found : Option ℕ) → (found_in arena).free ≡ found → FreeBelow (nodes_of arena) (cond t found None)
+    go true None same = tt
+    go true (Some node) same = (lowest_found (next_in arena) (nodes_of arena) (roots_in arena) same).0.below
     go false found same = tt
 
 -- a field of a node below N stands among the node records
@@ -70,9 +69,9 @@ module _ (arena : List ℕ) (worker at : ℕ) where
   unfolding turn_arena
   turn_inside else = go (turn_on arena worker) refl
     where
-      go : (t : Turned) → turn_on arena worker ≡ t → word (turn_arena arena worker) at ≡ word arena at
-      go (turned.Refused number) e = rw e
-      go (turned.Done step) e =
+      go : (t : Result Step Refusal) → turn_on arena worker ≡ t → word (turn_arena arena worker) at ≡ word arena at
+      go (Err number) e = rw e
+      go (Ok step) e =
           let it = turn_accepted arena worker e in
           turn_leaves arena worker at e (outside it.known it.header else)
           (not_touched step.effect it.header else (effect_below arena worker e))

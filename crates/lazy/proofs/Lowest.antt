@@ -8,12 +8,12 @@ use native.Mathlib.Omega.{arith}
 use native.Mathlib.Decide.{ℕ_discrete, dec_lt}
 use native.Mathlib.Nat.{sub-zero}
 use native.Mathlib.Numerals.{add-one}
-use Rattle.worker.specs.declared.report.Free.TheVariants as free
+use Rattle.std.specs.Prelude.{Some, None}
 use Rattle.lazy.specs.Free.{lowest_from}
 
 module _ (test : ℕ → Bool) where
   -- the one found does not pass, and each lower one does
-  pub found_from : (left from : ℕ) {node : ℕ} → lowest_from test left from ≡ free.Node node →
+  pub found_from : (left from : ℕ) {node : ℕ} → lowest_from test left from ≡ Some node →
       (from ≤ node) × (node < from + left) × (test node ≡ false) × ((lower : ℕ) → from ≤ lower → lower < node → test lower ≡ true)
   unfolding lowest_from
   found_from zero from {node} e = let z : ◌≡◌ {A = ℕ} 0 1 = cc in absurd (omega arith)
@@ -32,7 +32,7 @@ module _ (test : ℕ → Bool) where
       ]
 
   -- where none is found, each passes
-  pub none_from : (left from : ℕ) → lowest_from test left from ≡ free.None → (node : ℕ) → from ≤ node → node < from + left → test node ≡ true
+  pub none_from : (left from : ℕ) → lowest_from test left from ≡ None → (node : ℕ) → from ≤ node → node < from + left → test node ≡ true
   unfolding lowest_from
   none_from zero from e node h k = absurd (omega arith)
   none_from (suc left) from e node h k =
@@ -45,12 +45,12 @@ module _ (test : ℕ → Bool) where
       (dichotomy (test from))
 
   -- past the last node there is none
-  pub lowest_end : (count node : ℕ) → count ≤ node → lowest_from test (count - node) node ≡ free.None
+  pub lowest_end : (count node : ℕ) → count ≤ node → lowest_from test (count - node) node ≡ None
   unfolding lowest_from
   lowest_end count node h = let none : count - node ≡ 0 = omega arith in rw none
 
   -- before it, it is the first one that does not pass
-  pub lowest_here : {count node : ℕ} → node < count → test node ≡ false → lowest_from test (count - node) node ≡ free.Node node
+  pub lowest_here : {count node : ℕ} → node < count → test node ≡ false → lowest_from test (count - node) node ≡ Some node
   unfolding lowest_from
   lowest_here {count} {node} h e = let less : count - node ≡ suc (count - suc node) = omega arith in rw (less, e)
 

@@ -9,59 +9,51 @@ use lib.Seq.{get_or-set_other}
 use lib.Dec.{leb, eqb}
 use borrow.Author.Tests.{leb-false}
 use Rattle.worker.specs.Node.{new_node}
-use Rattle.worker.specs.Refusals.{Refusal, judged, no_such_worker}
+use Rattle.worker.specs.Refusals.{Test, judged}
+use Rattle.worker.specs.declared.refusal.Refusal.TheVariants.{NoSuchWorker}
 use Rattle.worker.specs.Report.{report_values, is_still}
 use Rattle.worker.specs.Stages.{takes, step_of}
 use Rattle.worker.specs.Turn.{turn_of}
 use Rattle.worker.specs.declared.Worker.{Worker}
-use Rattle.worker.specs.declared.report.Free.{Free}
-use Rattle.worker.specs.declared.report.Free.TheVariants as free
+use Rattle.std.specs.Prelude.{Option, Some, None}
+use Rattle.worker.specs.declared.refusal.Refusal.{Refusal}
 use Rattle.worker.specs.declared.report.Report.{Report}
 use Rattle.worker.specs.declared.report.Step.{Step}
 use Rattle.worker.specs.declared.report.Effect.{Effect}
 use Rattle.worker.specs.declared.report.Effect.TheVariants as effect
-use Rattle.worker.specs.declared.report.Turned.{Turned}
-use Rattle.worker.specs.declared.report.Turned.TheVariants as turned
+use Rattle.std.specs.Prelude.{Result, Ok, Err}
 use Rattle.worker.proofs.RefusalLaws.{judged_append, none_accepts}
 use Rattle.worker.proofs.ReportLaws.{report_told}
 use Rattle.worker.proofs.TurnLaws.{judged_done, done_step, step_row}
 use Rattle.worker.proofs.StillLaws.{still_step}
 use Rattle.words.specs.Layout.{word, layout_of, workers_of, nodes_of, node_width, node_from, node_key, node_next, node_mark, node_owner}
 use Rattle.words.specs.Records.{worker_at, node_words, with_node, Outside}
-use Rattle.words.specs.Replies.{refused, accepted}
+use Rattle.words.specs.Replies.{refused, accepted, refusing, reply}
 use Rattle.words.specs.Header.{header_refusals}
 use Rattle.words.proofs.Bounds.{narrow}
+use Rattle.words.proofs.Judged.{reply_told}
 use Rattle.words.proofs.HeaderLaws.{Header, header_holds}
 use Rattle.words.proofs.Runs.{sets_outside}
 use Rattle.words.proofs.RecordLaws.{node_long, others_stay, rewritten}
 use Rattle.lazy.specs.FindFree.{next_in, roots_in, found_in}
-use Rattle.lazy.specs.declared.Outcome.{Outcome}
-use Rattle.lazy.specs.declared.Outcome.TheVariants as outcome
-use Rattle.lazy.specs.Turn.{seen_of, seen_by, worker_refusals, turn_on, outcome_reply, outcome_of, with_effect, turned_arena, turn_answer, turn_arena}
+use Rattle.lazy.specs.Turn.{seen_of, seen_by, worker_refusals, turn_on, outcome_of, with_effect, turned_arena, turn_answer, turn_arena}
 use Rattle.lazy.specs.Claims.{Takes, IsFull, Touches}
 use Rattle.lazy.proofs.FreeLaws.{lowest_found, lowest_none}
 
--- the reply tells the outcome, so a turn answers just what it comes to
-outcome_told : (a b : Outcome) → outcome_reply a ≡ outcome_reply b → a ≡ b
-outcome_told (outcome.Reported a) (outcome.Reported b) same =
-    let values : report_values a ≡ report_values b = cc in ap outcome.Reported (report_told a b values)
-outcome_told (outcome.Reported a) (outcome.Refused n) same = let z : ◌≡◌ {A = ℕ} 0 1 = cc in absurd (omega arith)
-outcome_told (outcome.Refused n) (outcome.Reported b) same = let z : ◌≡◌ {A = ℕ} 0 1 = cc in absurd (omega arith)
-outcome_told (outcome.Refused n) (outcome.Refused m) same = let number : n ≡ m = cc in ap outcome.Refused number
-
-pub answer_told : (arena : List ℕ) (worker : ℕ) {told : Outcome} → outcome_reply told ≡ turn_answer arena worker →
+-- the reply tells the report, so a turn answers just what it comes to
+pub answer_told : (arena : List ℕ) (worker : ℕ) {told : Result Report Refusal} → reply report_values told ≡ turn_answer arena worker →
     told ≡ outcome_of (turn_on arena worker)
 unfolding turn_answer
-answer_told arena worker same = outcome_told _ (outcome_of (turn_on arena worker)) same
+answer_told arena worker same = reply_told report_values report_told _ (outcome_of (turn_on arena worker)) same
 
 -- a refused turn changes no word
 pub refused_stays : (arena : List ℕ) (worker : ℕ) {number : ℕ} → turn_answer arena worker ≡ refused number → turn_arena arena worker ≡ arena
 unfolding turn_answer turn_arena
 refused_stays arena worker {number} e = go (turn_on arena worker) e
   where
-    go : (t : Turned) → outcome_reply (outcome_of t) ≡ refused number → turned_arena arena worker t ≡ arena
-    go (turned.Done step) e = let z : ◌≡◌ {A = ℕ} 0 1 = cc in absurd (omega arith)
-    go (turned.Refused n) e = refl
+    go : (t : Result Step Refusal) → reply report_values (outcome_of t) ≡ refused number → turned_arena arena worker t ≡ arena
+    go (Ok step) e = let z : ◌≡◌ {A = ℕ} 0 1 = cc in absurd (omega arith)
+    go (Err n) e = refl
 
 -- an effect leaves every word but those it writes
 effect_leaves : (arena : List ℕ) (e : Effect) (at : ℕ) → (Touches arena e at → ⊥) → word (with_effect arena e) at ≡ word arena at
@@ -77,7 +69,7 @@ effect_leaves arena (effect.Fill node key next length) at out =
     (λ k h e. out (k, omega (arith, node_long width filled (narrow (layout_of arena))), omega arith))
 
 -- a turn leaves every word but the worker's own record and what its effect writes
-pub turn_leaves : (arena : List ℕ) (worker at : ℕ) {step : Step} → turn_on arena worker ≡ turned.Done step →
+pub turn_leaves : (arena : List ℕ) (worker at : ℕ) {step : Step} → turn_on arena worker ≡ Ok step →
     Outside worker at → (Touches arena step.effect at → ⊥) → word (turn_arena arena worker) at ≡ word arena at
 unfolding turn_arena
 turn_leaves arena worker at {step} e outside out =
@@ -87,24 +79,24 @@ turn_leaves arena worker at {step} e outside out =
 pub record Accepted (arena : List ℕ) (worker : ℕ) (step : Step) : Type 0 where
   pub header : Header arena
   pub known : worker < workers_of arena
-  pub done : turn_of (worker_at arena worker) (suc worker) (seen_by arena (worker_at arena worker)) ≡ turned.Done step
+  pub done : turn_of (worker_at arena worker) (suc worker) (seen_by arena (worker_at arena worker)) ≡ Ok step
 
-pub turn_accepted : (arena : List ℕ) (worker : ℕ) {step : Step} → turn_on arena worker ≡ turned.Done step → Accepted arena worker step
+pub turn_accepted : (arena : List ℕ) (worker : ℕ) {step : Step} → turn_on arena worker ≡ Ok step → Accepted arena worker step
 unfolding turn_on worker_refusals
 turn_accepted arena worker {step} e =
     let own = turn_of (worker_at arena worker) (suc worker) (seen_by arena (worker_at arena worker)) in
-    let unknown : List Refusal = (leb (workers_of arena) worker, no_such_worker) ∷ [] in
-    let first = judged_done (header_refusals arena) (judged unknown turned.Refused own)
-    (sym (judged_append (header_refusals arena) unknown turned.Refused own) ∙ e) in
+    let unknown : List Test = (leb (workers_of arena) worker, NoSuchWorker) ∷ [] in
+    let first = judged_done (header_refusals arena) (judged unknown Err own)
+    (sym (judged_append (header_refusals arena) unknown Err own) ∙ e) in
     let second = judged_done unknown own first.1 in
     record {
-      header = header_holds arena (sym (none_accepts (header_refusals arena) refused (accepted []) first.0));
+      header = header_holds arena (sym (none_accepts (header_refusals arena) refusing (accepted []) first.0));
       known = leb-false (workers_of arena) worker second.0.0;
       done = second.1;
     }
 
 -- and it is the step of the worker's stage
-pub turn_steps : (arena : List ℕ) (worker : ℕ) {step : Step} → turn_on arena worker ≡ turned.Done step →
+pub turn_steps : (arena : List ℕ) (worker : ℕ) {step : Step} → turn_on arena worker ≡ Ok step →
     step ≡ step_of (worker_at arena worker) (suc worker) (seen_by arena (worker_at arena worker))
 turn_steps arena worker e =
     done_step (worker_at arena worker) (suc worker) (seen_by arena (worker_at arena worker)) (turn_accepted arena worker e).done
@@ -114,21 +106,21 @@ pub still_stays : (arena : List ℕ) (worker : ℕ) (report : Report) → is_sti
     turn_answer arena worker ≡ accepted (report_values report) → turn_arena arena worker ≡ arena
 unfolding turn_arena with_effect
 still_stays arena worker report still e =
-    go (turn_on arena worker) refl (answer_told arena worker {told = outcome.Reported report} (sym e))
+    go (turn_on arena worker) refl (answer_told arena worker {told = Ok report} (sym e))
   where
     w : Worker
     w = worker_at arena worker
 
-    go : (t : Turned) → turn_on arena worker ≡ t → outcome.Reported report ≡ outcome_of t → turned_arena arena worker t ≡ arena
-    go (turned.Refused number) is told = refl
-    go (turned.Done step) is told =
+    go : (t : Result Step Refusal) → turn_on arena worker ≡ t → Ok report ≡ outcome_of t → turned_arena arena worker t ≡ arena
+    go (Err number) is told = refl
+    go (Ok step) is told =
         let same : report ≡ step.report = cc in
         let does = turn_steps arena worker is in
         let stays = still_step w (suc worker) (seen_by arena w) (ap (λ (t : Step). is_still t.report) (sym does) ∙ ap is_still (sym same) ∙ still) in
-        ap (λ (t : Step). turned_arena arena worker (turned.Done t)) (does ∙ stays) ∙ rewritten arena worker
+        ap (λ (t : Step). turned_arena arena worker (Ok t)) (does ∙ stays) ∙ rewritten arena worker
 
 -- at 14 a free node is taken where there is one, and full is answered only where there is none
-pub takes_free : (arena : List ℕ) (worker : ℕ) {step : Step} → turn_on arena worker ≡ turned.Done step →
+pub takes_free : (arena : List ℕ) (worker : ℕ) {step : Step} → turn_on arena worker ≡ Ok step →
     (worker_at arena worker).stage ≡ 14 → Takes arena (worker_at arena worker) step ⊎ IsFull arena (worker_at arena worker) step
 unfolding seen_by seen_of
 takes_free arena worker {step} e s =
@@ -138,17 +130,17 @@ takes_free arena worker {step} e s =
     w : Worker
     w = worker_at arena worker
 
-    seen_free : (stage : ℕ) → stage ≡ 14 → cond (eqb stage 14) (found_in arena).free free.None ≡ (found_in arena).free
+    seen_free : (stage : ℕ) → stage ≡ 14 → cond (eqb stage 14) (found_in arena).free None ≡ (found_in arena).free
     seen_free stage s = rw s
 
-    go : (found : Free) → (found_in arena).free ≡ found → step ≡ takes w found → Takes arena w step ⊎ IsFull arena w step
-    go free.None none same =
+    go : (found : Option ℕ) → (found_in arena).free ≡ found → step ≡ takes w found → Takes arena w step ⊎ IsFull arena w step
+    go None none same =
         inr (record {
           effect = ap (λ (t : Step). t.effect) same;
           answer = ap (λ (t : Step). t.worker.answer) same;
           none = lowest_none (next_in arena) (nodes_of arena) (roots_in arena) none;
         })
-    go (free.Node node) some same =
+    go (Some node) some same =
         let found = lowest_found (next_in arena) (nodes_of arena) (roots_in arena) some in
         inl (record {
           node = node;

@@ -5,20 +5,12 @@ use mathlib.Core.List.{List, [], ◌∷◌, ◌++◌}
 use mathlib.Core.Bool.{Bool, ◌||◌, or_assoc, or_comm}
 use native.Mathlib.Omega.{arith}
 use lib.ListN.{length, length-replicate}
-use Rattle.words.specs.Layout.{layout_of, nodes_of, node_width, node_part}
-use Rattle.words.proofs.Bounds.{wide}
-use Rattle.words.proofs.HeaderLaws.{Header, part_long}
 use Rattle.arena.specs.Lists.{filter}
 use Rattle.lazy.specs.Free.{nodes_below, reached, lowest_from, lowest_free, not_free}
-use Rattle.lazy.specs.Row.{holds, held, empty_row, Spans, Closed, Reaches}
+use Rattle.lazy.specs.Row.{holds, held, empty_row, Closed, Reaches}
 use Rattle.lazy.proofs.Passing.{passing_same}
 use Rattle.lazy.proofs.Lowest.{lowest_same}
 use Rattle.lazy.proofs.Rows.{holds_none}
-
--- behind a header in order the walks may rely on all that they do
-pub all_spanned : (arena : List ℕ) → Header arena → Spans (node_width (layout_of arena)) (nodes_of arena) (node_part arena)
-all_spanned arena header =
-    let long = part_long arena header in (omega (arith, wide header.good), omega arith, omega (arith, header.good))
 
 -- an empty row is closed, and holds no node
 pub empty_closed : {next : ℕ → ℕ} {count : ℕ} (room : ℕ) → count ≤ room → Closed next count (empty_row room)

@@ -1,16 +1,13 @@
 -- find_free on an arena (document 02, A4).
 use Rattle.std.specs.Prelude.{ℕ, List, [], ◌∷◌}
 use Rattle.worker.specs.Node.{no_node}
-use Rattle.worker.specs.declared.report.Free.{Free}
-use Rattle.worker.specs.declared.report.Free.TheVariants as free
+use Rattle.std.specs.Prelude.{Option, Some, None}
 use Rattle.words.specs.Layout.{layout_of, workers_of, nodes_of, node_width, node_part}
 use Rattle.words.specs.Records.{worker_at, next_at}
-use Rattle.words.specs.Replies.{Reply, refused, accepted, replied}
+use Rattle.words.specs.Replies.{Reply, replied}
 use Rattle.words.specs.Header.{header_refusals}
 use Rattle.lazy.specs.Free.{roots_of, found_by}
 use Rattle.lazy.specs.declared.Found.{Found}
-use Rattle.lazy.specs.declared.Search.{Search}
-use Rattle.lazy.specs.declared.Search.TheVariants as search
 
 -- the links and the roots of an arena
 abbrev pub next_in : List ℕ → ℕ → ℕ
@@ -24,17 +21,12 @@ abbrev pub found_in : List ℕ → Found
 found_in arena = found_by (next_in arena) (nodes_of arena) (roots_in arena)
 
 -- in numbers: the lowest-numbered free node, or 65,535 for none, and how many next words were read
-abbrev pub free_number : Free → ℕ
-free_number (free.Node node) = node
-free_number free.None = no_node
+abbrev pub free_number : Option ℕ → ℕ
+free_number (Some node) = node
+free_number None = no_node
 
 abbrev pub found_values : Found → List ℕ
 found_values it = free_number it.free ∷ it.reads ∷ []
-
--- what find_free answers: these, or the number of a refusal
-abbrev pub search_reply : Search → Reply
-search_reply (search.Done it) = accepted (found_values it)
-search_reply (search.Refused number) = refused number
 
 -- order: 1, 2
 unfoldable pub find_free_answer : List ℕ → Reply

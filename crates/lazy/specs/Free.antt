@@ -2,8 +2,7 @@
 use Rattle.std.specs.Prelude.{ℕ, zero, suc, ◌<◌, Bool, false, cond, ◌&&◌, ◌||◌, length, ltb, eqb}
 use mathlib.Core.List.{List, [], ◌∷◌, Memᴰ}
 use Rattle.worker.specs.Node.{head, tail}
-use Rattle.worker.specs.declared.report.Free.{Free}
-use Rattle.worker.specs.declared.report.Free.TheVariants as free
+use Rattle.std.specs.Prelude.{Option, Some, None}
 use Rattle.worker.specs.declared.Worker.{Worker}
 use Rattle.arena.specs.Lists.{filter}
 use Rattle.lazy.specs.declared.Found.{Found}
@@ -15,9 +14,9 @@ roots_of workers (suc count) =
     (workers count).pred ∷ (workers count).curr ∷ (workers count).spare ∷ roots_of workers count
 
 -- the lowest of so many nodes from `node` on that does not pass a test
-unfoldable pub lowest_from : (ℕ → Bool) → ℕ → ℕ → Free
-lowest_from test zero node = free.None
-lowest_from test (suc left) node = let onward = lowest_from test left (suc node) in cond (test node) onward (free.Node node)
+unfoldable pub lowest_from : (ℕ → Bool) → ℕ → ℕ → Option ℕ
+lowest_from test zero node = None
+lowest_from test (suc left) node = let onward = lowest_from test left (suc node) in cond (test node) onward (Some node)
 
 -- the first so many nodes, from the highest
 unfoldable pub nodes_below : ℕ → List ℕ
@@ -55,7 +54,7 @@ module _ (next : ℕ → ℕ) (count : ℕ) where
   reached (root ∷ roots) node = let others = reached roots node in leads count root node || others
 
   -- the lowest-numbered free node
-  unfoldable pub lowest_free : List ℕ → Free
+  unfoldable pub lowest_free : List ℕ → Option ℕ
   lowest_free roots = lowest_from (reached roots) count 0
 
   -- the nodes that are not free (`FreeLaws.not_free_exact`)

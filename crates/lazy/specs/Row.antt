@@ -1,6 +1,5 @@
 -- The row that the search keeps: for each node, whether it was reached so far.
-use Rattle.std.specs.Prelude.{ℕ, ◌+◌, ◌*◌, ◌≤◌, ◌<◌, ◌≡◌, List, Bool, true, false, ◌&&◌, ◌||◌, length, get_or, replicate}
-use Rattle.words.specs.Layout.{node_next}
+use Rattle.std.specs.Prelude.{ℕ, ◌+◌, ◌≤◌, ◌<◌, ◌≡◌, List, Bool, true, false, ◌&&◌, ◌||◌, length, get_or, replicate}
 use Rattle.lazy.specs.Free.{passing, reached}
 
 -- a row holds a node: it was reached
@@ -21,10 +20,6 @@ four_held row node = holds row node && holds row (node + 1) && holds row (node +
 -- the row in the beginning: it holds no node
 abbrev pub empty_row : ℕ → List Bool
 empty_row room = replicate room false
-
--- what the walks may rely on: the node records have a word for the next of each of so many nodes, and the nodes can be counted
-abbrev pub Spans : ℕ → ℕ → List ℕ → Type 0
-Spans width count nodes = (node_next < width) × (width * count ≤ length nodes) × (count ≤ 1024)
 
 -- a row has room for every node, and with a node it holds the one that follows
 pub record Closed (next : ℕ → ℕ) (count : ℕ) (row : List Bool) : Type 0 where

@@ -1,34 +1,28 @@
 -- A worker's turn on an arena (document 01: give a worker a turn).
-use Rattle.std.specs.Prelude.{ℕ, suc, List, [], ◌∷◌, ◌++◌, cond, set, leb, eqb}
+use Rattle.std.specs.Prelude.{ℕ, suc, List, [], ◌∷◌, ◌++◌, cond, set, leb, eqb, None, Result, Ok, Err}
 use Rattle.worker.specs.Node.{new_node}
-use Rattle.worker.specs.Refusals.{Refusal, judged, no_such_worker}
+use Rattle.worker.specs.Refusals.{Test, judged}
+use Rattle.worker.specs.declared.refusal.Refusal.TheVariants.{NoSuchWorker}
 use Rattle.worker.specs.Report.{report_values}
 use Rattle.worker.specs.Turn.{turn_of}
 use Rattle.worker.specs.declared.Node.{Node}
 use Rattle.worker.specs.declared.Worker.{Worker}
-use Rattle.worker.specs.declared.report.Free.TheVariants as free
+use Rattle.worker.specs.declared.refusal.Refusal.{Refusal}
+use Rattle.worker.specs.declared.report.Report.{Report}
+use Rattle.worker.specs.declared.report.Step.{Step}
 use Rattle.worker.specs.declared.report.Seen.{Seen}
 use Rattle.worker.specs.declared.report.Effect.{Effect}
 use Rattle.worker.specs.declared.report.Effect.TheVariants as effect
-use Rattle.worker.specs.declared.report.Turned.{Turned}
-use Rattle.worker.specs.declared.report.Turned.TheVariants as turned
 use Rattle.words.specs.Layout.{layout_of, workers_of, nodes_of, node_width, node_next, node_mark, node_owner, node_part, node_from}
 use Rattle.words.specs.Records.{worker_at, with_worker, with_node, node_at}
-use Rattle.words.specs.Replies.{Reply, refused, accepted}
+use Rattle.words.specs.Replies.{Reply, reply}
 use Rattle.words.specs.Header.{header_refusals}
 use Rattle.lazy.specs.Free.{roots_of, lowest_free}
-use Rattle.lazy.specs.declared.Outcome.{Outcome}
-use Rattle.lazy.specs.declared.Outcome.TheVariants as outcome
-
--- what a turn answers: the report, or the number of a refusal
-abbrev pub outcome_reply : Outcome → Reply
-outcome_reply (outcome.Reported report) = accepted (report_values report)
-outcome_reply (outcome.Refused number) = refused number
 
 -- of a turn that is done the report is told
-abbrev pub outcome_of : Turned → Outcome
-outcome_of (turned.Done step) = outcome.Reported step.report
-outcome_of (turned.Refused number) = outcome.Refused number
+abbrev pub outcome_of : Result Step Refusal → Result Report Refusal
+outcome_of (Ok step) = Ok step.report
+outcome_of (Err refusal) = Err refusal
 
 -- what a turn sees besides the worker's record: N, the nodes pred and curr, and at 14 the lowest-numbered free node
 unfoldable pub seen_of : (ℕ → Worker) → ℕ → (ℕ → Node) → ℕ → Worker → Seen
@@ -37,7 +31,7 @@ seen_of workers worker_count node count w =
       count = count;
       pred = node w.pred;
       curr = node w.curr;
-      free = cond (eqb w.stage 14) (lowest_free (λ n. (node n).next) count (roots_of workers worker_count)) free.None;
+      free = cond (eqb w.stage 14) (lowest_free (λ n. (node n).next) count (roots_of workers worker_count)) None;
     }
 
 -- of an arena
@@ -46,14 +40,14 @@ seen_by arena w =
     seen_of (worker_at arena) (workers_of arena) (node_at (node_width (layout_of arena)) (node_part arena)) (nodes_of arena) w
 
 -- short board: 1, odd header: 2, no such worker: 3
-unfoldable pub worker_refusals : List ℕ → ℕ → List Refusal
-worker_refusals arena worker = header_refusals arena ++ (leb (workers_of arena) worker, no_such_worker) ∷ []
+unfoldable pub worker_refusals : List ℕ → ℕ → List Test
+worker_refusals arena worker = header_refusals arena ++ (leb (workers_of arena) worker, NoSuchWorker) ∷ []
 
 -- the turn of a worker, whose owner word is its number + 1; order: 1, 2, 3, and then the turn's own 6, 7
-unfoldable pub turn_on : List ℕ → ℕ → Turned
+unfoldable pub turn_on : List ℕ → ℕ → Result Step Refusal
 turn_on arena worker =
     let w = worker_at arena worker in
-    judged (worker_refusals arena worker) turned.Refused (turn_of w (suc worker) (seen_by arena w))
+    judged (worker_refusals arena worker) Err (turn_of w (suc worker) (seen_by arena w))
 
 -- the arena with an effect: owner of a node := o; next of a node := s; mark of a node := 1; a node written as e, c, 0, 0 and, in layout 2,
 -- the length
@@ -65,12 +59,12 @@ with_effect arena (effect.SetMark node) = set arena (node_from arena node node_m
 with_effect arena (effect.Fill node key next length) = with_node arena node (new_node key next length)
 
 -- the effect and the worker's next record; a refused turn changes nothing
-abbrev pub turned_arena : List ℕ → ℕ → Turned → List ℕ
-turned_arena arena worker (turned.Done step) = with_worker (with_effect arena step.effect) worker step.worker
-turned_arena arena worker (turned.Refused number) = arena
+abbrev pub turned_arena : List ℕ → ℕ → Result Step Refusal → List ℕ
+turned_arena arena worker (Ok step) = with_worker (with_effect arena step.effect) worker step.worker
+turned_arena arena worker (Err refusal) = arena
 
 unfoldable pub turn_answer : List ℕ → ℕ → Reply
-turn_answer arena worker = outcome_reply (outcome_of (turn_on arena worker))
+turn_answer arena worker = reply report_values (outcome_of (turn_on arena worker))
 
 unfoldable pub turn_arena : List ℕ → ℕ → List ℕ
 turn_arena arena worker = turned_arena arena worker (turn_on arena worker)

@@ -1,163 +1,115 @@
 // The search for a free node: reach every node that a root leads to, and take the lowest that was not reached.
-ghost use Rattle.std.specs.Prelude.{suc, ◌+◌, ◌≤◌, ◌<◌, ◌≡◌, [], ◌∷◌, length};
-ghost use Rattle.words.specs.Layout.{workers_of, worker_from, slot, node_next};
-ghost use Rattle.words.specs.Records.{worker_at, next_at};
-ghost use Rattle.words.specs.Replies.{replied, accepted};
-ghost use Rattle.words.specs.Header.{header_refusals};
-ghost use Rattle.lazy.specs.Free.{roots_of, lowest_from, found_by};
+ghost use Rattle.std.specs.Prelude.{◌+◌, ◌≤◌, ◌<◌, ◌≡◌, [], ◌∷◌, length};
+ghost use Rattle.words.specs.Layout.{nodes_of};
+ghost use Rattle.words.specs.Records.{next_at};
+ghost use Rattle.lazy.specs.Free.{lowest_from};
 ghost use Rattle.lazy.specs.FindFree.{found_in};
-ghost use Rattle.lazy.specs.Row.{holds, held, AllHeld, four_held, empty_row, Spans, Closed, Reaches};
+ghost use Rattle.lazy.specs.Row.{holds, held, AllHeld, four_held, empty_row, Closed, Reaches};
 
-use crate::{Found, node_part};
-use words::layout;
-use worker::{Free, Node};
+use crate::Found;
+use words::{Arena, Nodes, layout};
+use worker::{Node, Worker};
 
-// A link that was read: where it leads, and how many were read so far.
-#[derive(Clone, Copy)]
-struct Link {
-    next: u16,
-    reads: u16,
-}
-
-// The lowest-numbered free node, and how many next words were read (document 01: the hunt; document 02, A4). The row must be cleared
-// first, so a small arena gets a small one.
-pub(crate) fn search(arena: &[u16]) -> Found
-    requires { accepted [] ≡ replied (header_refusals arena.now) [] }
-    ensures { result ≡ found_in arena.now }
+// The lowest-numbered free node, and how many next words were read (document 01: the hunt; document 02, A4). The row is of
+// fixed length, for there is no heap; it must be cleared first, so a small arena gets a small one.
+pub(crate) fn search(arena: Arena) -> Found
+    ensures { result ≡ found_in arena.entry.words.now }
 {
-    let nodes = node_part(arena);
-    let width = layout::node_width(words::word(arena, layout::LAYOUT_AT));
-    let count = words::word(arena, layout::NODES_AT) as usize;
-    if count <= 64 {
-        let mut reached = [false; 64];
-        return search_with(&mut reached, arena, nodes, width, count);
+    if arena.nodes().count <= 64 {
+        return search_with(&mut [false; 64], arena);
     }
-    let mut reached = [false; 1024];
-    search_with(&mut reached, arena, nodes, width, count)
+    search_with(&mut [false; 1024], arena)
 }
 
 // The search with an empty row, which has room for every node.
-fn search_with(
-    reached: &mut [bool],
-    arena: &[u16],
-    nodes: &[u16],
-    width: u16,
-    count: usize,
-) -> Found
-    requires { (reached.old ≡ empty_row (length reached.old)) × (count ≤ length reached.old) × Spans width count nodes.now
-        × (worker_from (workers_of arena.now) ≤ length arena.now) }
-    ensures { result ≡ found_by (next_at width nodes.now) count
-        (roots_of (worker_at arena.now) (workers_of arena.now)) }
+fn search_with(reached: &mut [bool], arena: Arena) -> Found
+    requires empty { reached.old ≡ empty_row (length reached.old) }
+    requires room { nodes_of arena.words.now ≤ length reached.old }
+    ensures { result ≡ found_in arena.entry.words.now }
 {
-    // Taken anew, so that the compiler hands both over in registers and not in memory.
-    let words = &arena[..];
-    let records = &nodes[..];
-    let workers = words::word(words, layout::WORKERS_AT);
-    let head = reach_from(reached, records, width, count, Node::HEAD, 0);
-    let mut reads = reach_from(reached, records, width, count, Node::TAIL, head);
-    let mut number = 0;
-    while number < workers {
-        reads = reach_worker(reached, records, width, count, words, number, reads);
-        number += 1;
+    let nodes = arena.nodes();
+    let head = reach_from(reached, nodes, Node::HEAD, 0);
+    let mut reads = reach_from(reached, nodes, Node::TAIL, head);
+    for number in 0..arena.worker_count() {
+        reads = reach_worker(reached, nodes, arena.worker(number), reads);
     }
-    let free = lowest_unreached(reached, count);
-    Found { free, reads }
+    Found {
+        free: lowest_unreached(reached, nodes.count as usize),
+        reads,
+    }
 }
 
-// Walks the next links from a root. Where a node was reached before, so was all that follows it, and nothing of it is read again.
-fn reach_from(
-    reached: &mut [bool],
-    nodes: &[u16],
-    width: u16,
-    count: usize,
-    root: u16,
-    reads: u16,
-) -> u16
-    requires { Closed (next_at width nodes.now) count reached.old × Spans width count nodes.now × (reads ≡ held count reached.old) }
-    ensures walked { Reaches (next_at width nodes.now) count (root ∷ [])
+// Walks the next links from a root, and counts each that it reads. Where a node was reached before, so was all that follows it, and nothing
+// of it is read again. The row and the count are no struct: the check covers no fact beside a lent row, and without it a struct says no more.
+fn reach_from(reached: &mut [bool], nodes: Nodes, root: u16, reads: u16) -> u16
+    requires { Closed (next_at nodes.width nodes.words.now) nodes.count reached.old
+        × (reads ≡ held nodes.count reached.old) }
+    ensures walked { Reaches (next_at nodes.entry.width nodes.entry.words.now) nodes.entry.count (root ∷ [])
         reached.old reached.new }
-    ensures counted { result ≡ held count reached.new }
+    ensures counted { result ≡ held nodes.entry.count reached.new }
 {
+    let count = nodes.count as usize;
     let mut node = root as usize;
     let mut so_far = reads;
+    // The links say where it goes on.
     while node < count {
         if reached[node] {
             return so_far;
         }
         reached[node] = true;
-        let link = read_next(nodes, width, node, so_far);
-        node = link.next as usize;
-        so_far = link.reads;
+        node = next_of(nodes, node) as usize;
+        so_far += 1;
     }
     so_far
 }
 
 // The same from the three roots that a worker holds.
-fn reach_worker(
-    reached: &mut [bool],
-    nodes: &[u16],
-    width: u16,
-    count: usize,
-    arena: &[u16],
-    number: u16,
-    reads: u16,
-) -> u16
-    requires { Closed (next_at width nodes.now) count reached.old × Spans width count nodes.now × (reads ≡ held count reached.old)
-        × (worker_from (suc number) ≤ length arena.now) }
-    ensures walked { Reaches (next_at width nodes.now) count
-        ((worker_at arena.now number).pred ∷ (worker_at arena.now number).curr ∷ (worker_at arena.now number).spare ∷ [])
-        reached.old reached.new }
-    ensures counted { result ≡ held count reached.new }
+fn reach_worker(reached: &mut [bool], nodes: Nodes, worker: Worker, reads: u16) -> u16
+    requires { Closed (next_at nodes.width nodes.words.now) nodes.count reached.old
+        × (reads ≡ held nodes.count reached.old) }
+    ensures walked { Reaches (next_at nodes.entry.width nodes.entry.words.now) nodes.entry.count
+        (worker.pred ∷ worker.curr ∷ worker.spare ∷ []) reached.old reached.new }
+    ensures counted { result ≡ held nodes.entry.count reached.new }
 {
-    let at = layout::worker_from(number);
-    let pred = arena[at + (layout::WORKER_PRED as usize)];
-    let curr = arena[at + (layout::WORKER_CURR as usize)];
-    let spare = arena[at + (layout::WORKER_SPARE as usize)];
-    let first = reach_from(reached, nodes, width, count, pred, reads);
-    let second = reach_from(reached, nodes, width, count, curr, first);
-    reach_from(reached, nodes, width, count, spare, second)
+    let first = reach_from(reached, nodes, worker.pred, reads);
+    let second = reach_from(reached, nodes, worker.curr, first);
+    reach_from(reached, nodes, worker.spare, second)
 }
 
-// Reads a node's next word and counts it. The search reads none anywhere else.
-fn read_next(nodes: &[u16], width: u16, node: usize, reads: u16) -> Link
-    requires { (node < 65536) × (slot width node node_next < length nodes.now) × (reads < 1024) }
-    ensures { (result.next ≡ next_at width nodes.now node) × (result.reads ≡ reads + 1) }
+// Reads a node's next word. The search reads none anywhere else.
+fn next_of(nodes: Nodes, node: usize) -> u16
+    requires { node < nodes.count }
+    ensures { result ≡ next_at nodes.entry.width nodes.entry.words.now node }
 {
-    Link {
-        next: nodes[layout::slot(width, node as u16, layout::NODE_NEXT)],
-        reads: reads + 1,
-    }
+    nodes.words[layout::slot(nodes.width, node as u16, layout::NODE_NEXT)]
 }
 
 // The lowest node that was not reached.
-fn lowest_unreached(reached: &[bool], count: usize) -> Free
+fn lowest_unreached(reached: &[bool], count: usize) -> Option<u16>
     requires { (count ≤ length reached.now) × (count ≤ 1024) }
     ensures { result ≡ lowest_from (holds reached.now) count 0 }
 {
-    let mut node = skip_reached(reached, count);
-    while node < count {
+    for node in skip_reached(reached, count)..count {
         if !reached[node] {
-            return Free::Node(node as u16);
+            return Some(node as u16);
         }
-        node += 1;
     }
-    Free::None
+    None
 }
 
 // Passes eight nodes at a time, as long as all of them were reached.
 fn skip_reached(reached: &[bool], count: usize) -> usize
     requires { count ≤ length reached.now }
-    ensures { AllHeld reached.now 0 result }
+    ensures held { AllHeld reached.now 0 result }
+    ensures within { result ≤ count }
 {
-    let mut node = 0;
-    while 8 <= count - node {
-        let all = four_reached(reached, node) & four_reached(reached, node + 4);
-        if !all {
+    for eight in 0..count / 8 {
+        let node = eight * 8;
+        if !(four_reached(reached, node) & four_reached(reached, node + 4)) {
             return node;
         }
-        node += 8;
     }
-    node
+    count / 8 * 8
 }
 
 fn four_reached(reached: &[bool], node: usize) -> bool

@@ -13,8 +13,7 @@ use Rattle.worker.specs.Turn.{belongs}
 use Rattle.worker.specs.declared.Worker.{Worker}
 use Rattle.worker.specs.declared.report.Answer.TheVariants.{Yes, No}
 use Rattle.worker.specs.declared.report.Report.TheVariants.{Moved}
-use Rattle.worker.specs.declared.report.Free.{Free}
-use Rattle.worker.specs.declared.report.Free.TheVariants as free
+use Rattle.std.specs.Prelude.{Option, Some, None}
 use Rattle.worker.specs.declared.report.Step.{Step}
 use Rattle.worker.specs.declared.report.Effect.TheVariants.{SetNext, SetMark, Fill}
 use Rattle.linear.specs.History.{is_decision}
@@ -166,20 +165,20 @@ module _ {nodes : ℕ} {s : State} (inv : Inv nodes s) (me : ℕ) where
         (rw (eqb-true w.answer 0 q.2)) refl (λ later. absurd (omega arith))
 
   -- what the search for a free node finds
-  abbrev pub FreeFound : Free → Type 0
-  FreeFound free.None = Unit {0}
-  FreeFound (free.Node n) = (n < nodes) × (Live nodes s n → ⊥)
+  abbrev pub FreeFound : Option ℕ → Type 0
+  FreeFound None = Unit {0}
+  FreeFound (Some n) = (n < nodes) × (Live nodes s n → ⊥)
 
-  pub row_14 : (found : Free) → FreeFound found → w.stage ≡ 14 → Row nodes s me (takes w found)
+  pub row_14 : (found : Option ℕ) → FreeFound found → w.stage ≡ 14 → Row nodes s me (takes w found)
   unfolding promises belongs is_decision
-  row_14 free.None f at =
+  row_14 None f at =
       let gap = promised inv me at in
       let q = sane_parts inv me at (omega arith) in
       settles_row inv me at 19 3 (quiet (omega arith)) (λ k f. f) gap.neighbours.stay.stays.held
       (whole _ _ true (updates w.operation (inl (eqb-true _ _ q.0))) q.1 refl)
       (missing tt (not_in_set gap.neighbours (omega arith) gap.above) (inl (eqb-true _ _ q.0, refl)))
       refl (eqb-true _ _ q.2) (omega arith) refl
-  row_14 (free.Node n) f at = row_fill at f.0 f.1
+  row_14 (Some n) f at = row_fill at f.0 f.1
 
   pub row_15 : w.stage ≡ 15 → Row nodes s me (goes (with_answer w 1) 19 (SetNext w.pred w.spare))
   unfolding promises belongs is_decision

@@ -8,18 +8,19 @@ use native.Mathlib.Decide.{dec_lt}
 use lib.Dec.{leb}
 use borrow.Author.Tests.{le-leb, lt-leb, leb-false, eqb-true, not-false}
 use Rattle.worker.specs.Worker.{is_call}
-use Rattle.worker.specs.Refusals.{Refusal, no_such_worker}
+use Rattle.worker.specs.Refusals.{Test}
+use Rattle.worker.specs.declared.refusal.Refusal.{Refusal}
+use Rattle.worker.specs.declared.refusal.Refusal.TheVariants.{NoSuchWorker}
 use Rattle.worker.specs.Turn.{turn_refusals, turn_of}
 use Rattle.worker.specs.declared.Worker.{Worker}
 use Rattle.worker.specs.declared.report.Step.{Step}
-use Rattle.worker.specs.declared.report.Turned.{Turned}
-use Rattle.worker.specs.declared.report.Turned.TheVariants.{Refused, Done}
+use Rattle.std.specs.Prelude.{Result, Ok, Err}
 use Rattle.worker.proofs.RefusalLaws.{NoneHolds, judged_keeps, judged_append, none_accepts}
 use Rattle.words.specs.Layout.{layout_of, workers_of, nodes_of}
 use Rattle.words.specs.Records.{worker_at}
 use Rattle.words.specs.Replies.{Reply, refused, accepted, replied}
 use Rattle.words.specs.Header.{header_refusals}
-use Rattle.words.proofs.Judged.{none_holds, judged_refused, judged_accepted}
+use Rattle.words.proofs.Judged.{none_holds, numbered, judged_numbered, judged_accepted}
 use Rattle.arena.specs.Start.{call_refusals, start_refusals, start_arena}
 use Rattle.lazy.specs.Free.{roots_of}
 use Rattle.lazy.specs.Turn.{outcome_of, seen_of, seen_by, worker_refusals, turn_on, with_effect, turned_arena, turn_arena}
@@ -37,8 +38,8 @@ pub record Sound (layout workers nodes : ℕ) (arena : List ℕ) : Type 0 where
 
 -- what an entry does, decoded: it is refused and changes nothing, or it is a start, or a turn
 pub data Entered (workers nodes : ℕ) (arena : List ℕ) (entry : Entry) : Type 0 where
-  refuses : (number : ℕ) → event_of arena entry ≡ entry_refused number → after arena entry ≡ arena →
-      (is_turn entry ≡ true → number ≡ no_such_worker) → Entered workers nodes arena entry
+  refuses : (refusal : Refusal) → event_of arena entry ≡ entry_refused refusal → after arena entry ≡ arena →
+      (is_turn entry ≡ true → refusal ≡ NoSuchWorker) → Entered workers nodes arena entry
   starts : event_of arena entry ≡ call_started → is_turn entry ≡ false → entry.worker < workers →
       ((decode arena).worker entry.worker).stage ≡ 0 → is_call (decode arena).lengths entry.act entry.key entry.length ≡ true →
       decode (after arena entry) ≡ stepped (decode arena) entry.worker (start_step entry.act entry.key entry.length) →
@@ -73,25 +74,25 @@ module _ {layout workers nodes : ℕ} {arena : List ℕ} (sound : Sound layout w
 
   -- with the header in order, a turn is refused for want of such a worker, or it is the turn of the worker's record
   pub turn_judged : (w : ℕ) → turn_on arena w
-      ≡ cond (leb (workers_of arena) w) (Refused no_such_worker) (turn_of (worker_at arena w) (suc w) (seen_by arena (worker_at arena w)))
+      ≡ cond (leb (workers_of arena) w) (Err NoSuchWorker) (turn_of (worker_at arena w) (suc w) (seen_by arena (worker_at arena w)))
   unfolding turn_on worker_refusals
   turn_judged w =
-      judged_append (header_refusals arena) ((leb (workers_of arena) w, no_such_worker) ∷ []) Refused _
-      ∙ none_accepts (header_refusals arena) Refused _ sound.none
+      judged_append (header_refusals arena) ((leb (workers_of arena) w, NoSuchWorker) ∷ []) Err _
+      ∙ none_accepts (header_refusals arena) Err _ sound.none
 
   -- the turn of a worker that there is not
-  pub turn_unknown : (w : ℕ) → workers ≤ w → turn_on arena w ≡ Refused no_such_worker
+  pub turn_unknown : (w : ℕ) → workers ≤ w → turn_on arena w ≡ Err NoSuchWorker
   turn_unknown w unknown = turn_judged w ∙ rw (le-leb (workers_of arena) w (omega (arith, sound.workers_are)))
 
   -- the turn of a worker that there is, where nothing refuses it
   turn_done : (w : ℕ) → w < workers → NoneHolds (turn_refusals ((decode arena).worker w) (seen_in workers nodes (decode arena) w)) →
-      turn_on arena w ≡ Done (turn_step workers nodes (decode arena) w)
+      turn_on arena w ≡ Ok (turn_step workers nodes (decode arena) w)
   unfolding turn_of
   turn_done w known passes =
       turn_judged w
       ∙ rw (lt-leb (workers_of arena) w (omega (arith, sound.workers_are)))
       ((λ i. turn_of (sym (own_record w known) i) (suc w) (sym (seen_same w known) i))
-      ∙ none_accepts (turn_refusals ((decode arena).worker w) (seen_in workers nodes (decode arena) w)) Refused _ passes)
+      ∙ none_accepts (turn_refusals ((decode arena).worker w) (seen_in workers nodes (decode arena) w)) Err _ passes)
 
   -- an entry that is the turn of such a worker
   pub turn_enters : (entry : Entry) → is_turn entry ≡ true → entry.worker < workers →
@@ -105,7 +106,7 @@ module _ {layout workers nodes : ℕ} {arena : List ℕ} (sound : Sound layout w
       let done = turn_done w known passes in
       let there : w < workers_of arena = omega (arith, sound.workers_are) in
       let writes : after arena entry ≡ stepped_arena arena w step = rw turn (ap (turned_arena arena w) done) in
-      let told : Turned → Event = λ t. turn_event (outcome_of t) in
+      let told : Result Step Refusal → Event = λ t. turn_event (outcome_of t) in
       (rw turn (ap told done), ap decode writes ∙ state_steps arena sound.none w step there (effect_below arena w done))
 
   -- and of one that there is not
@@ -113,8 +114,8 @@ module _ {layout workers nodes : ℕ} {arena : List ℕ} (sound : Sound layout w
   unfolding event_of after turn_arena
   refuses_turn entry turn unknown =
       let none_such = turn_unknown entry.worker unknown in
-      let told : Turned → Event = λ t. turn_event (outcome_of t) in
-      refuses no_such_worker (rw turn (ap told none_such)) (rw turn (ap (turned_arena arena entry.worker) none_such)) (λ _. refl)
+      let told : Result Step Refusal → Event = λ t. turn_event (outcome_of t) in
+      refuses NoSuchWorker (rw turn (ap told none_such)) (rw turn (ap (turned_arena arena entry.worker) none_such)) (λ _. refl)
 
   -- an entry that is a start
   enters_start : (entry : Entry) → is_turn entry ≡ false → Entered workers nodes arena entry
@@ -124,13 +125,13 @@ module _ {layout workers nodes : ℕ} {arena : List ℕ} (sound : Sound layout w
       w : ℕ
       w = entry.worker
 
-      refusals : List Refusal
+      refusals : List Test
       refusals = start_refusals arena w entry.act entry.key entry.length
 
       go : (reply : Reply) → reply ≡ replied refusals [] → Entered workers nodes arena entry
       go (refused number) e =
-          refuses number (rw start (judged_refused refusals [] entry_refused call_started e))
-          (rw start (judged_refused refusals [] (λ number. arena) _ e)) (λ turn. absurd (true≢false (sym turn ∙ start)))
+          refuses (numbered number) (rw start (judged_numbered refusals [] entry_refused call_started e))
+          (rw start (judged_numbered refusals [] (λ refusal. arena) _ e)) (λ turn. absurd (true≢false (sym turn ∙ start)))
       go (accepted values) e =
           let step = start_step entry.act entry.key entry.length in
           let call = (none_holds refusals [] e).1.1 in
@@ -138,7 +139,7 @@ module _ {layout workers nodes : ℕ} {arena : List ℕ} (sound : Sound layout w
           let known : w < workers = omega (arith, sound.workers_are) in
           let idle = eqb-true (worker_at arena w).stage 0 (not-false _ call.1.1.0) in
           let writes : after arena entry ≡ stepped_arena arena w step
-          = rw start (judged_accepted refusals [] (λ number. arena) (stepped_arena arena w step) e) in
+          = rw start (judged_accepted refusals [] (λ refusal. arena) (stepped_arena arena w step) e) in
           starts (rw start (judged_accepted refusals [] entry_refused call_started e)) start known
           (ap (λ (own : Worker). own.stage) (own_record w known) ∙ idle) (not-false _ call.1.1.1.0)
           (ap decode writes ∙ state_steps arena sound.none w step there tt)
@@ -166,14 +167,14 @@ after_keeps P arena entry stays writes = go (is_turn entry)
     w : ℕ
     w = entry.worker
 
-    turned : (t : Turned) → P (turned_arena arena w t)
-    turned (Refused number) = stays
-    turned (Done step) = writes step
+    turned : (t : Result Step Refusal) → P (turned_arena arena w t)
+    turned (Err refusal) = stays
+    turned (Ok step) = writes step
 
     go : (t : Bool) → P (cond t (turn_arena arena w) (start_arena arena w entry.act entry.key entry.length))
     go true = turned (turn_on arena w)
     go false =
-        judged_keeps P (start_refusals arena w entry.act entry.key entry.length) (λ number. arena) _ (λ number. stays)
+        judged_keeps P (start_refusals arena w entry.act entry.key entry.length) (λ refusal. arena) _ (λ refusal. stays)
         (writes (start_step entry.act entry.key entry.length))
 
 -- an entry of any kind leaves the header in order

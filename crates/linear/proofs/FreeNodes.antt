@@ -6,7 +6,7 @@ use native.Mathlib.Omega.{arith}
 use native.Mathlib.Decide.{ℕ_discrete, dec_lt}
 use Rattle.worker.specs.Worker.{idle_worker}
 use Rattle.worker.specs.declared.Worker.{Worker}
-use Rattle.worker.specs.declared.report.Free.TheVariants as free
+use Rattle.std.specs.Prelude.{Some}
 use Rattle.lazy.specs.Free.{roots_of, Run, here as stays, on as goes, lowest_free}
 use Rattle.lazy.proofs.FreeLaws.{lowest_found}
 use Rattle.linear.proofs.Reach.{Reach, here, on}
@@ -51,7 +51,7 @@ run_of {a} inside there (on r) = goes there (run_of inside (inside a there) r)
 
 -- a live node is reached, and a free one is not
 pub free_not_live : {nodes : ℕ} {s : State} → Inv nodes s → (workers : ℕ) → ((v : ℕ) → workers ≤ v → s.worker v ≡ idle_worker) →
-    {n : ℕ} → lowest_free s.next nodes (roots_of s.worker workers) ≡ free.Node n → (n < nodes) × (Live nodes s n → ⊥)
+    {n : ℕ} → lowest_free s.next nodes (roots_of s.worker workers) ≡ Some n → (n < nodes) × (Live nodes s n → ⊥)
 free_not_live {nodes} {s} inv workers idle e =
     let found = (lowest_found s.next nodes (roots_of s.worker workers) e).0 in (
       found.below,

@@ -11,8 +11,7 @@ use Rattle.worker.specs.Worker.{add, within}
 use Rattle.worker.specs.Report.{report_values}
 use Rattle.worker.specs.Stages.{with_answer, reports, goes, to, takes, stage_table, step_of}
 use Rattle.worker.specs.declared.Worker.{Worker}
-use Rattle.worker.specs.declared.report.Free.{Free}
-use Rattle.worker.specs.declared.report.Free.TheVariants as free
+use Rattle.std.specs.Prelude.{Option, Some, None}
 use Rattle.worker.specs.declared.report.Report.{Report}
 use Rattle.worker.specs.declared.report.Report.TheVariants.{Idle, Waits}
 use Rattle.worker.specs.declared.report.Step.{Step}
@@ -185,9 +184,9 @@ module _ {nodes : ℕ} {s : State} (inv : Inv nodes s) (me : ℕ) where
   either false this other = other
 
   -- 14: the node that is filled has no owner
-  row_14 : (found : Free) → Locking (takes w found)
-  row_14 free.None = both _ _ _ (λ node. inr refl) refl refl refl refl
-  row_14 (free.Node x) =
+  row_14 : (found : Option ℕ) → Locking (takes w found)
+  row_14 None = both _ _ _ (λ node. inr refl) refl refl refl refl
+  row_14 (Some x) =
       both _ _ _ (λ node. ⊎_elim (λ e. inl (at_node node x 0 _ e)) (λ d. inr (off_node node x 0 _ d)) (same? node x)) refl refl refl refl
 
   -- what stands in the table at each stage

@@ -11,13 +11,15 @@ use lib.Dec.{leb}
 use borrow.Author.Tests.{le-leb, leb-false}
 use Rattle.worker.specs.Node.{new_node}
 use Rattle.worker.specs.Worker.{started_worker}
-use Rattle.worker.specs.Refusals.{Refusal, judged, no_such_worker}
+use Rattle.worker.specs.Refusals.{Test, judged}
+use Rattle.worker.specs.declared.report.Step.{Step}
+use Rattle.worker.specs.declared.refusal.Refusal.{Refusal}
+use Rattle.worker.specs.declared.refusal.Refusal.TheVariants.{NoSuchWorker}
 use Rattle.worker.specs.Turn.{turn_of}
 use Rattle.worker.specs.declared.Worker.{Worker}
 use Rattle.worker.specs.declared.report.Effect.{Effect}
 use Rattle.worker.specs.declared.report.Effect.TheVariants.{Nothing, SetOwner, SetNext, SetMark, Fill}
-use Rattle.worker.specs.declared.report.Turned.{Turned}
-use Rattle.worker.specs.declared.report.Turned.TheVariants.{Refused, Done}
+use Rattle.std.specs.Prelude.{Result, Ok, Err}
 use Rattle.worker.proofs.RefusalLaws.{NoneHolds, judged_append, none_accepts}
 use Rattle.worker.proofs.EffectLaws.{EffectBelow}
 use Rattle.words.specs.Layout.{word, header_width, worker_from, node_width, layout_of, workers_of, nodes_of, nodes_from_of, total_of, node_part, node_from, node_key, node_next, node_mark, node_owner, has_length}
@@ -26,7 +28,7 @@ use Rattle.words.specs.Replies.{Reply, refused, accepted, replied}
 use Rattle.words.specs.Header.{header_refusals}
 use Rattle.words.proofs.Bounds.{wide, narrow}
 use Rattle.words.proofs.HeaderLaws.{Header}
-use Rattle.words.proofs.Judged.{none_holds, judged_refused, judged_accepted}
+use Rattle.words.proofs.Judged.{none_holds, judged_numbered, judged_accepted}
 use Rattle.words.proofs.RecordLaws.{node_long}
 use Rattle.words.proofs.Runs.{sets_front}
 use Rattle.arena.specs.Start.{call_refusals, start_refusals, start_arena}
@@ -118,7 +120,7 @@ module _ (arena more : List ℕ) (none : NoneHolds (header_refusals arena)) wher
         | yes known ↦
             let seen = ap (seen_by longer) (record_same w known) ∙ seen_same (worker_at arena w) in
             turn_judged sound_longer w
-            ∙ (λ i. cond (leb (header_word 1 (omega arith) i) w) (Refused no_such_worker) (turn_of (record_same w known i) (suc w) (seen i)))
+            ∙ (λ i. cond (leb (header_word 1 (omega arith) i) w) (Err NoSuchWorker) (turn_of (record_same w known i) (suc w) (seen i)))
             ∙ sym (turn_judged sound_here w)
         | no unknown ↦ turn_unknown sound_longer w (omega arith) ∙ sym (turn_unknown sound_here w (omega arith))
       ]
@@ -155,15 +157,15 @@ module _ (arena more : List ℕ) (none : NoneHolds (header_refusals arena)) wher
   unfolding turn_arena
   turn_longer w = ap (turned_arena longer w) (turn_same w) ∙ go (turn_on arena w) refl
     where
-      go : (t : Turned) → turn_on arena w ≡ t → turned_arena longer w t ≡ turned_arena arena w t ++ more
-      go (Refused number) e = refl
-      go (Done step) e =
+      go : (t : Result Step Refusal) → turn_on arena w ≡ t → turned_arena longer w t ≡ turned_arena arena w t ++ more
+      go (Err refusal) e = refl
+      go (Ok step) e =
           ap (λ words. with_worker words w step.worker) (effect_longer step.effect (effect_below arena w e))
           ∙ record_longer (with_effect arena step.effect) w step.worker (effect_long arena step.effect) (turn_accepted arena w e).known
 
   -- a start is judged the same
   module _ (w operation key length : ℕ) where
-    call_judged : {A : Type 0} (refuse : ℕ → A) (accept : A) →
+    call_judged : {A : Type 0} (refuse : Refusal → A) (accept : A) →
         judged (call_refusals longer w operation key length) refuse accept ≡ judged (call_refusals arena w operation key length) refuse accept
     unfolding call_refusals
     call_judged refuse accept =
@@ -172,7 +174,7 @@ module _ (arena more : List ℕ) (none : NoneHolds (header_refusals arena)) wher
           | no unknown ↦ rw (header_word 0 (omega arith), header_word 1 (omega arith), le-leb (workers_of arena) w (omega arith))
         ]
 
-    start_judged : {A : Type 0} (refuse : ℕ → A) (accept : A) →
+    start_judged : {A : Type 0} (refuse : Refusal → A) (accept : A) →
         judged (start_refusals longer w operation key length) refuse accept ≡ judged (start_refusals arena w operation key length) refuse accept
     unfolding start_refusals
     start_judged refuse accept =
@@ -184,25 +186,25 @@ module _ (arena more : List ℕ) (none : NoneHolds (header_refusals arena)) wher
 
     start_longer : start_arena longer w operation key length ≡ start_arena arena w operation key length ++ more
     unfolding start_arena start_refusals call_refusals header_refusals
-    start_longer = start_judged (λ number. longer) (with_worker longer w started) ∙ go (replied refusals []) refl
+    start_longer = start_judged (λ refusal. longer) (with_worker longer w started) ∙ go (replied refusals []) refl
       where
         started : Worker
         started = started_worker operation key length
 
-        refusals : List Refusal
+        refusals : List Test
         refusals = start_refusals arena w operation key length
 
         go : (reply : Reply) → reply ≡ replied refusals [] →
-            judged refusals (λ number. longer) (with_worker longer w started)
-            ≡ judged refusals (λ number. arena) (with_worker arena w started) ++ more
+            judged refusals (λ refusal. longer) (with_worker longer w started)
+            ≡ judged refusals (λ refusal. arena) (with_worker arena w started) ++ more
         go (refused number) e =
-            judged_refused refusals [] (λ number. longer) _ e
-            ∙ ap (λ words. words ++ more) (sym (judged_refused refusals [] (λ number. arena) _ e))
+            judged_numbered refusals [] (λ refusal. longer) _ e
+            ∙ ap (λ words. words ++ more) (sym (judged_numbered refusals [] (λ refusal. arena) _ e))
         go (accepted values) e =
             let known = leb-false (workers_of arena) w (none_holds refusals [] e).1.1.0 in
-            judged_accepted refusals [] (λ number. longer) _ e
+            judged_accepted refusals [] (λ refusal. longer) _ e
             ∙ record_longer arena w started refl known
-            ∙ ap (λ words. words ++ more) (sym (judged_accepted refusals [] (λ number. arena) _ e))
+            ∙ ap (λ words. words ++ more) (sym (judged_accepted refusals [] (λ refusal. arena) _ e))
 
   pub unseen : (entry : Entry) → Unseen arena more entry
   unfolding event_of after

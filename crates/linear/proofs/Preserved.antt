@@ -9,8 +9,7 @@ use borrow.Author.Tests.{eqb-false}
 use Rattle.worker.specs.Worker.{add, remove, contains, within, is_key, carries, is_call, new_worker, started_worker}
 use Rattle.worker.specs.Stages.{reports, stage_table, step_of}
 use Rattle.worker.specs.Turn.{belongs}
-use Rattle.worker.specs.declared.report.Free.{Free}
-use Rattle.worker.specs.declared.report.Free.TheVariants as free
+use Rattle.std.specs.Prelude.{Option, Some, None}
 use Rattle.worker.specs.declared.report.Report.TheVariants.{Idle}
 use Rattle.worker.specs.declared.report.Step.{Step}
 use Rattle.worker.proofs.Laws.{range_bounds, in_range, call_parts}
@@ -53,12 +52,12 @@ module _ {nodes : ℕ} {s : State} (inv : Inv nodes s) (w : ℕ) where
   Rows stage step = (s.worker w).stage ≡ stage → Row nodes s w step
 
   module _ (workers : ℕ)
-      (found : (n : ℕ) → lowest_free s.next nodes (roots_of s.worker workers) ≡ free.Node n → (n < nodes) × (Live nodes s n → ⊥))
+      (found : (n : ℕ) → lowest_free s.next nodes (roots_of s.worker workers) ≡ Some n → (n < nodes) × (Live nodes s n → ⊥))
       (below : (s.worker w).stage < 26) where
-    free_found : (asked : Bool) (some : Free) → lowest_free s.next nodes (roots_of s.worker workers) ≡ some →
-        FreeFound inv w (cond asked some free.None)
-    free_found true free.None e = tt
-    free_found true (free.Node n) e = found n e
+    free_found : (asked : Bool) (some : Option ℕ) → lowest_free s.next nodes (roots_of s.worker workers) ≡ some →
+        FreeFound inv w (cond asked some None)
+    free_found true None e = tt
+    free_found true (Some n) e = found n e
     free_found false some e = tt
 
     rows : AllFrom Rows 0 (stage_table (s.worker w) (suc w) (seen_in workers nodes s w))

@@ -12,12 +12,12 @@ use borrow.Author.Tests.{eq-eqb, ne_eqb, lt-ltb, le-ltb, ltb-true}
 use Rattle.worker.specs.Worker.{idle_worker}
 use Rattle.worker.specs.declared.Worker.{Worker}
 use Rattle.worker.specs.declared.report.Step.{Step}
-use Rattle.worker.specs.declared.report.Turned.TheVariants.{Done}
+use Rattle.std.specs.Prelude.{Ok}
 use Rattle.worker.proofs.RefusalLaws.{NoneHolds, none_accepts}
 use Rattle.worker.proofs.EffectLaws.{EffectBelow}
 use Rattle.words.specs.Layout.{word, header_width, worker_width, worker_stage, worker_operation, worker_key, worker_pred, worker_curr, worker_spare, worker_answer, worker_length, node_key, node_next, node_mark, node_owner, node_length, has_length, worker_from, node_width, slot, header_words, layout_of, workers_of, nodes_of, nodes_from_of, node_from, total_of}
 use Rattle.words.specs.Records.{worker_at, worker_words, with_worker, node_at, Outside}
-use Rattle.words.specs.Replies.{refused, accepted}
+use Rattle.words.specs.Replies.{accepted, refusing}
 use Rattle.words.specs.Header.{is_header, header_refusals}
 use Rattle.words.proofs.Bounds.{wide}
 use Rattle.words.proofs.HeaderLaws.{Header, header_holds}
@@ -29,7 +29,7 @@ use Rattle.linear.proofs.Words.{field_in, effect_long, effect_before, field_word
 
 -- an arena that the header test does not refuse has its header in order
 pub header_of : (arena : List ℕ) → NoneHolds (header_refusals arena) → Header arena
-header_of arena none = header_holds arena (sym (none_accepts (header_refusals arena) refused (accepted []) none))
+header_of arena none = header_holds arena (sym (none_accepts (header_refusals arena) refusing (accepted []) none))
 
 -- a worker's record of given words
 abbrev pub record_of : (ℕ → ℕ) → Worker
@@ -113,7 +113,7 @@ module _ (arena other : List ℕ) (same : (at : ℕ) → at < header_width → w
 
 -- the arena after a worker's step
 abbrev pub stepped_arena : List ℕ → ℕ → Step → List ℕ
-stepped_arena arena worker step = turned_arena arena worker (Done step)
+stepped_arena arena worker step = turned_arena arena worker (Ok step)
 
 module _ (arena : List ℕ) (none : NoneHolds (header_refusals arena)) (worker : ℕ) (step : Step) where
   -- the arena after the step

@@ -6,7 +6,8 @@ use mathlib.Core.List.{List, Memᴰ}
 use mathlib.Core.Bool.{true, true≢false}
 use mathlib.Core.Option as option
 use native.Mathlib.Omega.{arith}
-use Rattle.worker.specs.Refusals.{no_such_worker, broken_record, broken_chain}
+use Rattle.worker.specs.declared.refusal.Refusal.{Refusal}
+use Rattle.worker.specs.declared.refusal.Refusal.TheVariants.{NoSuchWorker, BrokenRecord, BrokenChain}
 use Rattle.worker.specs.declared.report.Report.{Report}
 use Rattle.words.specs.Layout.{good_counts}
 use Rattle.arena.specs.Init.{fresh_words}
@@ -37,15 +38,15 @@ use Rattle.linear.proofs.Calls.{Told, open_yet, pointed, told, own_points}
 use Rattle.linear.proofs.Waiting.{all_blocked}
 use Rattle.linear.proofs.Openings.{changes}
 
--- a refusal with another number than 6 and 7
-other_number : {number : ℕ} → number ≡ no_such_worker →
-    (entry_refused number ≢ entry_refused broken_record) × (entry_refused number ≢ entry_refused broken_chain)
-other_number {number} e =
-    (λ same. let six : number ≡ broken_record = cc in omega arith, λ same. let seven : number ≡ broken_chain = cc in omega arith)
+-- no such worker is another refusal than 6 and 7
+other_refusal : {refusal : Refusal} → refusal ≡ NoSuchWorker →
+    (entry_refused refusal ≢ entry_refused BrokenRecord) × (entry_refused refusal ≢ entry_refused BrokenChain)
+other_refusal {refusal} e =
+    (λ same. let six : NoSuchWorker ≡ BrokenRecord = cc in cc, λ same. let seven : NoSuchWorker ≡ BrokenChain = cc in cc)
 
 -- a turn that reports is not refused
-not_refused : (report : Report) (number : ℕ) → turn_reported report ≢ entry_refused number
-not_refused report number e = let z : ◌≡◌ {A = ℕ} 0 1 = cc in omega arith
+not_refused : (report : Report) (refusal : Refusal) → turn_reported report ≢ entry_refused refusal
+not_refused report refusal e = let z : ◌≡◌ {A = ℕ} 0 1 = cc in omega arith
 
 module _ (r : Schedule) where
   -- a call of the list is the one that some accepted start starts
@@ -157,8 +158,8 @@ module _ (r : Schedule) where
   unmet time turning = go (entered_at r (time - 1) (entry_at r.entries time) (always r (time - 1)))
     where
       go : Entered r.workers r.nodes (arena r (time - 1)) (entry_at r.entries time) →
-          (event_at r.initial r.entries time ≢ entry_refused broken_record) × (event_at r.initial r.entries time ≢ entry_refused broken_chain)
-      go (refuses number event same unknown) = rw event (other_number (unknown turning))
+          (event_at r.initial r.entries time ≢ entry_refused BrokenRecord) × (event_at r.initial r.entries time ≢ entry_refused BrokenChain)
+      go (refuses number event same unknown) = rw event (other_refusal (unknown turning))
       go (starts event starting known idle call next) = absurd (true≢false (sym turning ∙ starting))
       go (turns event turned known next) = rw event (not_refused _ _, not_refused _ _)
 

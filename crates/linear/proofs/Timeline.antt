@@ -149,8 +149,8 @@ module _ (r : Schedule) where
 
   happening : (time : ℕ) → Inv r.nodes (state time) → Entered r.workers r.nodes (arena time) (entry time) → Happens time
   unfolding arena_at
-  happening time inv (refuses number event same known) =
-      let is : outcome time ≡ entry_refused number = outcome_is time ∙ event in nothing (ap is_started is) (ap is_reported is)
+  happening time inv (refuses refusal event same known) =
+      let is : outcome time ≡ entry_refused refusal = outcome_is time ∙ event in nothing (ap is_started is) (ap is_reported is)
       (ap is_finished is) same
   happening time inv (starts event turning known idle call next) = start (outcome_is time ∙ event) idle call known next
   happening time inv (turns event turning known next) =
@@ -197,7 +197,7 @@ module _ (r : Schedule) where
   turn_known time {report} event = go (entered_at time (entry time) (always time))
     where
       go : Entered r.workers r.nodes (arena time) (entry time) → (entry time).worker < r.workers
-      go (refuses number is same known) =
+      go (refuses refusal is same known) =
           absurd (true≢false (sym (ap is_reported (sym (outcome_is time ∙ is) ∙ event))))
       go (starts is turning known idle call next) = known
       go (turns is turning known next) = known
@@ -206,7 +206,7 @@ module _ (r : Schedule) where
   idle_unfinished time idle = go (entered_at time (entry time) (always time))
     where
       go : Entered r.workers r.nodes (arena time) (entry time) → is_finished (outcome time) ≡ false
-      go (refuses number is same known) = ap is_finished (outcome_is time ∙ is)
+      go (refuses refusal is same known) = ap is_finished (outcome_is time ∙ is)
       go (starts is turning known idle call next) = ap is_finished (outcome_is time ∙ is)
       go (turns is turning known next) =
           ap is_finished (outcome_is time ∙ is)
@@ -233,7 +233,7 @@ module _ (r : Schedule) where
       own_is step own next = ap (λ (s : State). s.worker v) next ∙ rw (eq-eqb v (entry time).worker (sym own))
 
       go : Entered r.workers r.nodes (arena time) (entry time) → ((entry time).worker ≡ v) ⊎ ((entry time).worker ≢ v) → For time v
-      go (refuses number event same unknown) _ =
+      go (refuses refusal event same unknown) _ =
           not_its (inl (ap is_finished (outcome_is time ∙ event))) (ap (λ words. (decode words).worker v) same)
       go (starts event starting known idle call next) (inl own) =
           its_start (subst (λ w. ((state time).worker w).stage ≡ 0) own idle) (own_is (start_step (entry time).act (entry time).key (entry time).length) own next)

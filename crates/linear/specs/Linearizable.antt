@@ -2,7 +2,7 @@
 use Rattle.std.specs.Prelude.{ℕ, suc, ◌≤◌, ◌<◌, ◌≡◌, ◌≢◌, ◌↔◌, ◌⊎◌, true, length, get_or}
 use mathlib.Core.List.{List, [], Memᴰ, map}
 use Rattle.worker.specs.Worker.{idle_stage, idle_worker}
-use Rattle.worker.specs.Refusals.{broken_record, broken_chain}
+use Rattle.worker.specs.declared.refusal.Refusal.TheVariants.{BrokenRecord, BrokenChain}
 use Rattle.worker.specs.Report.{answer_number}
 use Rattle.worker.specs.declared.report.Answer.{Answer}
 use Rattle.worker.specs.declared.report.Report.TheVariants.{Finished}
@@ -45,7 +45,7 @@ module _ (initial : List ℕ) (entries : List Entry) where
   abbrev pub Unbroken : Type 0
   Unbroken =
       (time : ℕ) → is_turn (entry_at entries time) ≡ true →
-      (event_at initial entries time ≢ entry_refused broken_record) × (event_at initial entries time ≢ entry_refused broken_chain)
+      (event_at initial entries time ≢ entry_refused BrokenRecord) × (event_at initial entries time ≢ entry_refused BrokenChain)
 
   -- and at every time the chain is whole, and the labels of the set are those of document 01's words
   abbrev pub ExactSets : Type 0

@@ -11,6 +11,7 @@ use lib.Seq.{get_or-set_same, get_or-set_other}
 use lib.Dec.{eqb}
 use borrow.Author.Tests.{eq-eqb, ne_eqb}
 use Rattle.worker.specs.Worker.{contains}
+use Rattle.worker.specs.declared.refusal.Refusal.{Refusal}
 use Rattle.worker.specs.declared.report.Report.{Report}
 use Rattle.worker.specs.declared.report.Report.TheVariants as report
 use Rattle.words.specs.Layout.{workers_of}
@@ -91,8 +92,8 @@ module _ (r : Schedule) where
           booked.missed_first origin b (before origin b o) asks
           ∙ sym (absent_stays r key (suc origin) now (omega arith) (started_before origin b o) (kept key))
 
-    refusing : (number : ℕ) → outcome r now ≡ entry_refused number → arena r (suc now) ≡ arena r now → Booked (suc now) (with_refusal book)
-    refusing number event same =
+    refusing : (refusal : Refusal) → outcome r now ≡ entry_refused refusal → arena r (suc now) ≡ arena r now → Booked (suc now) (with_refusal book)
+    refusing refusal event same =
         let unstarted : is_started (outcome r now) ≡ false = ap is_started event in
         record {
           calls_are = booked.calls_are ∙ sym (ap length (passing_same (run_starts_at r) now unstarted));
@@ -277,13 +278,13 @@ module _ (r : Schedule) where
     -- by what the next entry comes to
     by_event : Happens r now → Booked (suc now) (next_book (arena r now) (suc now) (entry r now) book (outcome r now))
     unfolding arena_at next_book
-    by_event (nothing unstarted unreported unfinished same) = refusal (outcome r now) refl unstarted unreported
+    by_event (nothing unstarted unreported unfinished same) = refused (outcome r now) refl unstarted unreported
       where
-        refusal : (event : Event) → outcome r now ≡ event → is_started event ≡ false → is_reported event ≡ false →
+        refused : (event : Event) → outcome r now ≡ event → is_started event ≡ false → is_reported event ≡ false →
             Booked (suc now) (next_book (arena r now) (suc now) (entry r now) book event)
-        refusal call_started is unstarted unreported = absurd (true≢false unstarted)
-        refusal (turn_reported report) is unstarted unreported = absurd (true≢false unreported)
-        refusal (entry_refused number) is unstarted unreported = refusing number is same
+        refused call_started is unstarted unreported = absurd (true≢false unstarted)
+        refused (turn_reported report) is unstarted unreported = absurd (true≢false unreported)
+        refused (entry_refused refusal) is unstarted unreported = refusing refusal is same
     by_event (start event idle call known next) =
         subst (λ e. Booked (suc now) (next_book (arena r now) (suc now) (entry r now) book e)) (sym event)
         (starting event idle known (has_started r now (entry r now).worker (entry r now).act (entry r now).key (entry r now).length idle next))

@@ -1,33 +1,30 @@
--- The entries of a schedule, by the places of their words.
-use Prim.Native.Nat.{ℕ, zero, suc, ◌+◌, ◌*◌, ◌%◌, ◌≤◌, ◌<◌, ◌/◌}
+-- The entries of a schedule, four words after four words.
+use Prim.Native.Nat.{ℕ, zero, suc, ◌+◌, ◌*◌, ◌≤◌, ◌<◌, ◌/◌}
 use mathlib.Core.Path.{◌≡◌, refl, ap}
-use mathlib.Core.List.{List, [], ◌∷◌}
+use mathlib.Core.List.{List, [], ◌∷◌, ◌++◌}
 use mathlib.Core.Bool.{Bool, true, false, cond, not, and-false}
-use native.Mathlib.Nat.{suc-add}
-use native.Mathlib.Numerals.{add-one, add-two, add-three, add-four}
 use native.Mathlib.Omega.{arith}
-use lib.ListN.{length, get_or, drop}
-use lib.Seq.{drop-cons}
+use lib.ListN.{length, get_or, take, drop}
 use lib.Dec.{leb, ltb, eqb}
 use borrow.Author.Tests.{lt-leb, ne_eqb, lt-ltb, le-ltb, leb-true, leb-false}
 use Rattle.worker.specs.Worker.{within}
-use Rattle.worker.specs.Refusals.{Refusal, judged}
+use Rattle.worker.specs.Refusals.{Test, judged}
 use Rattle.arena.specs.Start.{start_refusals}
 use Rattle.arena.specs.Lists.{filter}
 use Rattle.arena.proofs.ListLaws.{filter_shorter}
 use Rattle.linear.specs.Entries.{Entry, call_started, entry_refused, is_turn, is_waits, event_of}
-use Rattle.schedule.specs.Run.{entry_width, entry_of, entries_of, count_in}
+use Rattle.schedule.specs.Run.{entry_width, entries_of, count_in}
+use Rattle.schedule.specs.Book.{given, first_entry}
 
 -- the four words from a place on, as an entry
 abbrev pub entry_from : List ℕ → ℕ → Entry
-entry_from schedule at =
-    entry_of (get_or schedule at 0) (get_or schedule (at + 1) 0) (get_or schedule (at + 2) 0) (get_or schedule (at + 3) 0)
+entry_from schedule at = given (first_entry (take entry_width (drop at schedule)))
 
 onward : (k : ℕ) → entry_width * suc k ≡ suc (suc (suc (suc (entry_width * k))))
 onward k = omega arith
 
 -- entry k is words 4k to 4k + 3
-pub entry_at_lem : (schedule : List ℕ) (k : ℕ) (default : Entry) → entry_width * k + 3 < length schedule →
+pub entry_at_lem : (schedule : List ℕ) (k : ℕ) (default : Entry) → k < length schedule / entry_width →
     get_or (entries_of schedule) k default ≡ entry_from schedule (entry_width * k)
 unfolding entries_of
 entry_at_lem [] k default h = absurd (omega arith)
@@ -35,7 +32,26 @@ entry_at_lem (worker ∷ []) k default h = absurd (omega arith)
 entry_at_lem (worker ∷ act ∷ []) k default h = absurd (omega arith)
 entry_at_lem (worker ∷ act ∷ key ∷ []) k default h = absurd (omega arith)
 entry_at_lem (worker ∷ act ∷ key ∷ cells ∷ words) zero default h = refl
-entry_at_lem (worker ∷ act ∷ key ∷ cells ∷ words) (suc k) default h = rw (onward k) (simp suc-add (entry_at_lem words k default (omega arith)))
+entry_at_lem (worker ∷ act ∷ key ∷ cells ∷ words) (suc k) default h = rw (onward k) (entry_at_lem words k default (omega arith))
+
+-- four words are an entry, and then come the others
+pub entry_first : (words rest : List ℕ) → length words ≡ entry_width → entries_of (words ++ rest) ≡ given (first_entry words) ∷ entries_of rest
+unfolding entries_of
+entry_first [] rest four = absurd (omega arith)
+entry_first (worker ∷ []) rest four = absurd (omega arith)
+entry_first (worker ∷ act ∷ []) rest four = absurd (omega arith)
+entry_first (worker ∷ act ∷ key ∷ []) rest four = absurd (omega arith)
+entry_first (worker ∷ act ∷ key ∷ cells ∷ []) rest four = refl
+entry_first (worker ∷ act ∷ key ∷ cells ∷ more ∷ words) rest four = absurd (omega arith)
+
+-- fewer are none
+pub no_entry : (words : List ℕ) → length words < entry_width → entries_of words ≡ []
+unfolding entries_of
+no_entry [] few = refl
+no_entry (worker ∷ []) few = refl
+no_entry (worker ∷ act ∷ []) few = refl
+no_entry (worker ∷ act ∷ key ∷ []) few = refl
+no_entry (worker ∷ act ∷ key ∷ cells ∷ words) few = absurd (omega arith)
 
 -- how many there are
 entries_fit : (schedule : List ℕ) →
@@ -48,56 +64,27 @@ entries_fit (worker ∷ act ∷ []) = (omega arith, omega arith)
 entries_fit (worker ∷ act ∷ key ∷ []) = (omega arith, omega arith)
 entries_fit (worker ∷ act ∷ key ∷ cells ∷ words) = let others = entries_fit words in (omega arith, omega arith)
 
-pub entries_count : (schedule : List ℕ) → length schedule % entry_width ≡ 0 → length (entries_of schedule) * entry_width ≡ length schedule
-entries_count schedule whole = let fit = entries_fit schedule in omega arith
-
-pub entries_quotient : (schedule : List ℕ) → length schedule % entry_width ≡ 0 → length schedule / entry_width ≡ length (entries_of schedule)
-entries_quotient schedule whole = omega (arith, entries_count schedule whole)
+pub entries_quotient : (schedule : List ℕ) → length schedule / entry_width ≡ length (entries_of schedule)
+entries_quotient schedule = let fit = entries_fit schedule in omega arith
 
 -- and how many pass a test
 pub count_few : (test : Entry → Bool) (schedule : List ℕ) → count_in test (entries_of schedule) ≤ length schedule / entry_width
 unfolding count_in
 count_few test schedule = let fit = entries_fit schedule in omega (arith, filter_shorter test (entries_of schedule))
 
--- the entries from a place on: the entry there, and then the others; none where no four words are left
-next_entry : (schedule : List ℕ) (at : ℕ) → at + entry_width ≤ length schedule →
-    entries_of (drop at schedule) ≡ entry_from schedule at ∷ entries_of (drop (at + entry_width) schedule)
-unfolding entries_of
-next_entry schedule at h =
-    rw (
-      add-four,
-      add-three,
-      add-two,
-      add-one,
-      drop-cons schedule at 0 (omega arith),
-      drop-cons schedule (suc at) 0 (omega arith),
-      drop-cons schedule (suc (suc at)) 0 (omega arith),
-      drop-cons schedule (suc (suc (suc at))) 0 (omega arith),
-    )
-
-no_entry : (schedule : List ℕ) → length schedule < entry_width → entries_of schedule ≡ []
-unfolding entries_of
-no_entry [] h = refl
-no_entry (worker ∷ []) h = refl
-no_entry (worker ∷ act ∷ []) h = refl
-no_entry (worker ∷ act ∷ key ∷ []) h = refl
-no_entry (worker ∷ act ∷ key ∷ cells ∷ words) h = absurd (omega arith)
-
--- those of them that pass a test
-module _ (test : Entry → Bool) (schedule : List ℕ) (at : ℕ) (h : at + entry_width ≤ length schedule) where
-  pub one_more : test (entry_from schedule at) ≡ true →
-      count_in test (entries_of (drop at schedule)) ≡ suc (count_in test (entries_of (drop (at + entry_width) schedule)))
+module _ (test : Entry → Bool) (words rest : List ℕ) (four : length words ≡ entry_width) where
+  pub one_more : test (given (first_entry words)) ≡ true →
+      count_in test (entries_of (words ++ rest)) ≡ suc (count_in test (entries_of rest))
   unfolding count_in filter
-  one_more is = rw (next_entry schedule at h, is)
+  one_more is = rw (entry_first words rest four, is)
 
-  pub no_more : test (entry_from schedule at) ≡ false →
-      count_in test (entries_of (drop at schedule)) ≡ count_in test (entries_of (drop (at + entry_width) schedule))
+  pub no_more : test (given (first_entry words)) ≡ false → count_in test (entries_of (words ++ rest)) ≡ count_in test (entries_of rest)
   unfolding count_in filter
-  no_more is = rw (next_entry schedule at h, is)
+  no_more is = rw (entry_first words rest four, is)
 
-pub none_left : (test : Entry → Bool) (schedule : List ℕ) → length schedule < entry_width → count_in test (entries_of schedule) ≡ 0
+pub none_left : (test : Entry → Bool) (words : List ℕ) → length words < entry_width → count_in test (entries_of words) ≡ 0
 unfolding count_in filter
-none_left test schedule h = rw (no_entry schedule h)
+none_left test words few = rw (no_entry words few)
 
 -- the turns among them are those with acts from 0 to 0
 pub turns_within : (entries : List Entry) → count_in (λ entry. within 0 0 entry.act) entries ≡ count_in is_turn entries
@@ -118,7 +105,7 @@ turns_within (entry ∷ entries) =
     go false same = same
 
 -- an entry that is no turn does not wait
-not_waits : (refusals : List Refusal) → is_waits (judged refusals entry_refused call_started) ≡ false
+not_waits : (refusals : List Test) → is_waits (judged refusals entry_refused call_started) ≡ false
 not_waits [] = refl
 not_waits ((applies, number) ∷ refusals) = go applies (not_waits refusals)
   where

@@ -6,34 +6,7 @@ use native.Mathlib.Omega.{arith}
 use native.Mathlib.Nat.{zero-add, add-suc, suc-add, mul-suc}
 use lib.ListN.{length, get_or, set, drop, length-append, length-map, length-drop}
 use lib.Seq.{sets, sets-eq, drop-append_seam, drop-drop}
-use Rattle.schedule.specs.declared.Call.{Call}
-use Rattle.schedule.specs.declared.Wait.{Wait}
-use Rattle.schedule.specs.Run.{call_width, call_words, wait_width, wait_words, flat_words}
-use Rattle.schedule.specs.Book.{call_in, wait_in, with_record}
-
--- how records stand in flat words: each has as many words, and is read from them, first and behind another
-pub record Stands {A : Type 0} (words : A → List ℕ) (width : ℕ) (read : List ℕ → ℕ → A) : Type 0 where
-  pub wide : (x : A) → length (words x) ≡ width
-  pub first : (x : A) (rest : List ℕ) → read (words x ++ rest) 0 ≡ x
-  pub behind : (x : A) (rest : List ℕ) (i : ℕ) → read (words x ++ rest) (suc i) ≡ read rest i
-
-pub calls_stand : Stands call_words call_width call_in
-unfolding call_in
-calls_stand = record { wide = λ call. refl; first = λ call rest. refl; behind = further }
-  where
-    further : (call : Call) (rest : List ℕ) (i : ℕ) → call_in (call_words call ++ rest) (suc i) ≡ call_in rest i
-    further call rest i =
-        let place : call_width * suc i ≡ suc (suc (suc (suc (suc (suc (suc (call_width * i))))))) = omega arith in
-        rw place (simp suc-add)
-
-pub waits_stand : Stands wait_words wait_width wait_in
-unfolding wait_in
-waits_stand = record { wide = λ wait. refl; first = λ wait rest. refl; behind = further }
-  where
-    further : (wait : Wait) (rest : List ℕ) (i : ℕ) → wait_in (wait_words wait ++ rest) (suc i) ≡ wait_in rest i
-    further wait rest i =
-        let place : wait_width * suc i ≡ suc (suc (suc (suc (wait_width * i)))) = omega arith in
-        rw place (simp suc-add)
+use Rattle.schedule.specs.Records.{flat_words, record_in, with_record, RecordLaws}
 
 -- the records of some times, and behind them what was lent
 abbrev pub held_by : {A : Type 0} → (A → List ℕ) → ℕ → (ℕ → A) → List ℕ → List ℕ → List ℕ
@@ -55,27 +28,40 @@ write_first values words room =
     let place : length values * 0 ≡ 0 = omega arith in
     rw place (sets-eq values words 0 (rw zero-add room) ∙ rw zero-add)
 
-module _ {A : Type 0} {words : A → List ℕ} {width : ℕ} {read : List ℕ → ℕ → A} (stands : Stands words width read) where
+module _ {A : Type 0} {width : ℕ} {words : A → List ℕ} {first : List ℕ → A} (laws : RecordLaws width words first) where
+  -- a record is read from its words, first and behind another
+  pub read_first : (x : A) (rest : List ℕ) → record_in width first (words x ++ rest) 0 ≡ x
+  unfolding record_in
+  read_first x rest =
+      let place : width * 0 ≡ 0 = omega arith in
+      rw place (laws.read_back x rest)
+
+  pub read_behind : (x : A) (rest : List ℕ) (i : ℕ) → record_in width first (words x ++ rest) (suc i) ≡ record_in width first rest i
+  unfolding record_in
+  read_behind x rest i =
+      let place : width * suc i ≡ length (words x) + width * i = rw (laws.wide x, mul-suc) (omega arith) in
+      rw place (ap first (sym (drop-drop (width * i) (length (words x)) (words x ++ rest)) ∙ ap (drop (width * i)) (drop-append_seam (words x) rest)))
+
   pub flat_length : (xs : List A) → length (flat_words words xs) ≡ width * length xs
   unfolding flatten
   flat_length [] = omega arith
-  flat_length (x ∷ xs) = rw (length-append, stands.wide x, flat_length xs, mul-suc) (omega arith)
+  flat_length (x ∷ xs) = rw (length-append, laws.wide x, flat_length xs, mul-suc) (omega arith)
 
   -- record i of some records, read and written
   pub flat_read : (xs : List A) (rest : List ℕ) (i : ℕ) (default : A) → i < length xs →
-      read (flat_words words xs ++ rest) i ≡ get_or xs i default
+      record_in width first (flat_words words xs ++ rest) i ≡ get_or xs i default
   unfolding flatten
   flat_read [] rest i default there = absurd (omega arith)
-  flat_read (x ∷ xs) rest zero default there = rw append_assoc (stands.first x (flat_words words xs ++ rest))
+  flat_read (x ∷ xs) rest zero default there = rw append_assoc (read_first x (flat_words words xs ++ rest))
   flat_read (x ∷ xs) rest (suc i) default there =
-      rw append_assoc (stands.behind x (flat_words words xs ++ rest) i ∙ flat_read xs rest i default (omega arith))
+      rw append_assoc (read_behind x (flat_words words xs ++ rest) i ∙ flat_read xs rest i default (omega arith))
 
   write_behind : (x y : A) (rest : List ℕ) (i : ℕ) →
       with_record (words x ++ rest) (suc i) (words y) ≡ words x ++ with_record rest i (words y)
   unfolding with_record
   write_behind x y rest i =
       let further : length (words y) * suc i ≡ length (words x) + length (words y) * i
-      = rw (stands.wide x, stands.wide y, mul-suc) (omega arith) in
+      = rw (laws.wide x, laws.wide y, mul-suc) (omega arith) in
       rw further (sets_behind (words x) rest (words y) (length (words y) * i))
 
   pub flat_write : (xs : List A) (rest : List ℕ) (i : ℕ) (x : A) → i < length xs →
@@ -83,7 +69,7 @@ module _ {A : Type 0} {words : A → List ℕ} {width : ℕ} {read : List ℕ �
   unfolding flatten
   flat_write [] rest i x there = absurd (omega arith)
   flat_write (y ∷ ys) rest zero x there =
-      let same : length (words x) ≡ length (words y) = stands.wide x ∙ sym (stands.wide y) in
+      let same : length (words x) ≡ length (words y) = laws.wide x ∙ sym (laws.wide y) in
       let behind = flat_words words ys ++ rest in
       rw (append_assoc, append_assoc)
       (write_first (words x) (words y ++ behind) (rw (length-append, same) (omega arith))
@@ -98,8 +84,8 @@ module _ {A : Type 0} {words : A → List ℕ} {width : ℕ} {read : List ℕ �
       with_record (flat_words words xs ++ rest) (length xs) (words x) ≡ flat_words words (xs ++ x ∷ []) ++ drop width rest
   unfolding flatten
   flat_more [] rest x room =
-      write_first (words x) rest (rw (stands.wide x) room)
-      ∙ ap (λ n. words x ++ drop n rest) (stands.wide x)
+      write_first (words x) rest (rw (laws.wide x) room)
+      ∙ ap (λ n. words x ++ drop n rest) (laws.wide x)
       ∙ ap (λ l. l ++ drop width rest) (sym (append-nil (words x)))
   flat_more (y ∷ ys) rest x room =
       rw (append_assoc, append_assoc)

@@ -9,6 +9,7 @@ use lib.Dec.{eqb, ltb}
 use borrow.Author.Tests.{ltb-true, ltb-false, eqb-true, not-false, lt-ltb, le-ltb}
 use Rattle.worker.specs.Refusals.{judged}
 use Rattle.words.specs.Layout.{layout2, good_counts, total}
+use Rattle.worker.specs.declared.refusal.Refusal.{Refusal}
 use Rattle.words.specs.Replies.{accepted, replied}
 use Rattle.words.proofs.Judged.{none_holds}
 use Rattle.arena.specs.Init.{fresh_words}
@@ -69,7 +70,7 @@ same_test count lent few = go (ltb lent count) refl
     go false e = le-ltb (min lent 4000) count (omega (arith, ltb-false lent count e))
 
 module _ (arena : List ℕ) (workers nodes : ℕ) (schedule : List ℕ) (call_room wait_room : ℕ) where
-  pub judged_most : {A : Type 0} (refuse : ℕ → A) (accept : A) →
+  pub judged_most : {A : Type 0} (refuse : Refusal → A) (accept : A) →
       judged (run_refusals arena workers nodes schedule (min call_room 4000) (min wait_room 4000)) refuse accept
       ≡ judged (run_refusals arena workers nodes schedule call_room wait_room) refuse accept
   unfolding run_refusals

@@ -14,9 +14,10 @@ use Rattle.linear.proofs.Phases.{not_decided, not_finished}
 use Rattle.linear.proofs.Waiting.{starts}
 use Rattle.schedule.specs.declared.Call.{Call}
 use Rattle.schedule.specs.declared.book.Book.{Book}
-use Rattle.schedule.specs.Run.{record_of, call_width, call_words, flat_words}
+use Rattle.schedule.specs.Records.{flat_words}
+use Rattle.schedule.specs.Run.{record_of, call_width, call_words, call_laws}
 use Rattle.schedule.specs.Book.{with_call, new_call, next_book, next_calls, calls_after}
-use Rattle.schedule.proofs.Flat.{calls_stand, held_by, held_more}
+use Rattle.schedule.proofs.Flat.{held_by, held_more}
 use Rattle.schedule.proofs.CallsBy.{call_new}
 use Rattle.schedule.proofs.Booked.{Booked, booked_event}
 use Rattle.schedule.proofs.Written.{record_by, records, held, all_still}
@@ -50,7 +51,7 @@ module _ (r : Schedule) (now : ℕ) (lent : List ℕ) (book : Book) (booked : Bo
         ∙ ap (λ n. with_call (held_by call_words call_width (record_by r (suc now)) (starts r now) lent) n new) booked.calls_are
         ∙ ap (with_call (held_by call_words call_width (record_by r (suc now)) (starts r now) lent) (length (starts r now)))
         (sym (ap record_of (call_new r (suc now))))
-        ∙ held_more calls_stand (record_by r (suc now)) (starts r now) lent (suc now) (omega (arith, count))
+        ∙ held_more call_laws (record_by r (suc now)) (starts r now) lent (suc now) (omega (arith, count))
         ∙ ap (λ times. held_by call_words call_width (record_by r (suc now)) times lent) (sym more)
 
   by_event : (run_starts_at r (suc now) ≡ true → call_width * length (starts r (suc now)) ≤ length lent) → Happens r now →

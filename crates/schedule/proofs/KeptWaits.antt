@@ -14,9 +14,10 @@ use Rattle.linear.proofs.OpenCalls.{At, open_at}
 use Rattle.linear.proofs.Waiting.{open_number, waiter_busy}
 use Rattle.schedule.specs.declared.Wait.{Wait}
 use Rattle.schedule.specs.declared.book.Book.{Book}
-use Rattle.schedule.specs.Run.{wait_of, wait_width, wait_words}
-use Rattle.schedule.specs.Book.{with_record, next_waits, waits_after}
-use Rattle.schedule.proofs.Flat.{waits_stand, held_by, held_more}
+use Rattle.schedule.specs.Records.{with_record}
+use Rattle.schedule.specs.Run.{wait_of, wait_width, wait_words, wait_laws}
+use Rattle.schedule.specs.Book.{next_waits, waits_after}
+use Rattle.schedule.proofs.Flat.{held_by, held_more}
 use Rattle.schedule.proofs.Booked.{Booked}
 use Rattle.schedule.proofs.Written.{number_is}
 
@@ -62,7 +63,7 @@ module _ (r : Schedule) where
         = ap length more ∙ length-append (passing waiting_at now) (suc now ∷ []) ∙ omega arith in
         ap (λ wait. with_record (held_waits lent now) book.waits (wait_words wait)) (wait_is node worker is)
         ∙ ap (λ n. with_record (held_waits lent now) n (wait_words (run_wait_at (suc now)))) booked.waits_are
-        ∙ held_more waits_stand run_wait_at (passing waiting_at now) lent (suc now) (omega (arith, count, room waits))
+        ∙ held_more wait_laws run_wait_at (passing waiting_at now) lent (suc now) (omega (arith, count, room waits))
         ∙ ap (λ times. held_by wait_words wait_width run_wait_at times lent) (sym more)
 
     by_event : (waiting_at (suc now) ≡ true → wait_width * length (passing waiting_at (suc now)) ≤ length lent) →

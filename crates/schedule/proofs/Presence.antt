@@ -1,5 +1,5 @@
 -- A walk along a chain whose keys rise, up to where a key must stand.
-use Prim.Native.Nat.{ℕ, ◌-◌, ◌≤◌, ◌<◌}
+use Prim.Native.Nat.{ℕ, ◌≤◌, ◌<◌}
 use mathlib.Core.Path.{◌≡◌, refl, sym, ap, ◌∙◌}
 use mathlib.Core.Logic.{◌≢◌}
 use mathlib.Core.List.{List, [], ◌∷◌, Memᴰ, map}
@@ -7,12 +7,10 @@ use mathlib.Core.Bool.{Bool, true, false, cond, ◌&&◌, ◌||◌}
 use mathlib.Mathlib.Data.Bool.Basic.{eq-false-eq-not-eq-true}
 use native.Mathlib.Omega.{arith}
 use native.Mathlib.Decide.{ℕ_discrete}
-use lib.ListN.{take, drop}
 use lib.Dec.{eqb}
 use borrow.Author.Tests.{eq-eqb, ne_eqb}
 use Rattle.worker.specs.Node.{head, tail}
-use Rattle.words.specs.Layout.{word, layout_of, nodes_of, node_width, node_part}
-use Rattle.words.specs.Records.{node_at}
+use Rattle.words.specs.Layout.{layout_of, nodes_of, node_width, node_part}
 use Rattle.arena.specs.Lists.{filter}
 use Rattle.arena.specs.Sets.{Label, member, is_unmarked, chain_labels, node_in, label_in, ChainWhole, set_of}
 use Rattle.arena.proofs.ListLaws.{from_filter, from_map}
@@ -29,12 +27,6 @@ eqb_sym a b =
       | yes e ↦ rw (eq-eqb a b e, eq-eqb b a (sym e))
       | no d ↦ rw (ne_eqb a b d, ne_eqb b a (λ e. d (sym e)))
     ]
-
--- a node that is read from the part of the arena that its header places
-pub read_in : (arena : List ℕ) {from total layout width : ℕ} → from ≡ word arena 4 → total ≡ word arena 5 → width ≡ node_width layout →
-    layout ≡ word arena 0 → (node : ℕ) → node_at width (take (total - from) (drop from arena)) node ≡ node_in arena node
-unfolding node_part
-read_in arena f t w l node = rw (f, t, w, l)
 
 module _ (arena : List ℕ) (key : ℕ) where
   abbrev unmarked : ℕ → Bool

@@ -1,5 +1,5 @@
 -- The run from entry to entry: the arena, the books and the flat words are those of the time, and at the end those of the history.
-use Prim.Native.Nat.{ℕ, zero, suc, ◌+◌, ◌*◌, ◌≤◌, ◌<◌, ◌%◌}
+use Prim.Native.Nat.{ℕ, zero, suc, ◌+◌, ◌*◌, ◌≤◌, ◌<◌}
 use mathlib.Core.Path.{◌≡◌, refl, sym, ap, subst, ◌∙◌}
 use mathlib.Core.Logic.{⊎_elim}
 use mathlib.Core.List.{List, [], ◌∷◌, ◌++◌, map, map-map, append-nil, flatten}
@@ -13,7 +13,7 @@ use borrow.Author.Tests.{le-ltb}
 use Rattle.worker.proofs.Laws.{call_parts}
 use Rattle.worker.proofs.RefusalLaws.{none_accepts}
 use Rattle.words.specs.Layout.{layout2, good_counts, total}
-use Rattle.words.specs.Replies.{refused, accepted, replied}
+use Rattle.words.specs.Replies.{accepted, refusing}
 use Rattle.words.specs.Header.{header_refusals}
 use Rattle.arena.specs.Init.{fresh_words, init_refusals, init_arena}
 use Rattle.arena.specs.Lists.{filter}
@@ -26,10 +26,11 @@ use Rattle.linear.proofs.Timeline.{fresh_schedule, Schedule, Happens, nothing, s
 use Rattle.linear.proofs.Waiting.{starts}
 use Rattle.schedule.specs.declared.book.Book.{Book}
 use Rattle.schedule.specs.Run.{entry_width, entries_of, is_operation, count_in, record_of, records_of, wait_of, waits_of, told, totals_of}
-use Rattle.schedule.specs.Run.{call_width, call_words, wait_width, wait_words, flat_words}
-use Rattle.schedule.specs.Book.{new_book, is_broken, Roomy, book_after, calls_after, waits_after}
-use Rattle.schedule.proofs.EntryLaws.{entry_from, entry_at_lem, entries_count, start_silent}
-use Rattle.schedule.proofs.Flat.{calls_stand, waits_stand, flat_length}
+use Rattle.schedule.specs.Run.{call_width, call_words, call_laws, wait_width, wait_words, wait_laws}
+use Rattle.schedule.specs.Records.{flat_words}
+use Rattle.schedule.specs.Book.{new_book, InOrder, Roomy, book_after, calls_after, waits_after}
+use Rattle.schedule.proofs.EntryLaws.{entry_from, entry_at_lem, entries_quotient, start_silent}
+use Rattle.schedule.proofs.Flat.{flat_length}
 use Rattle.schedule.proofs.CallsBy.{call_last}
 use Rattle.schedule.proofs.Booked.{Booked, booked_first, booked_next}
 use Rattle.schedule.proofs.Written.{record_by, held}
@@ -164,13 +165,14 @@ module _ (workers nodes : ℕ) (schedule lent lent_waits : List ℕ) where
       abbrev read : Entry
       read = entry_from schedule (entry_width * done)
 
-      next_is : length schedule % entry_width ≡ 0 → next ≡ read
+      next_is : next ≡ read
       unfolding entry_at
-      next_is whole_entries = rw sub-one (entry_at_lem schedule done nobody (omega (arith, entries_count schedule whole_entries)))
+      next_is = rw sub-one (entry_at_lem schedule done nobody (omega (arith, entries_quotient schedule)))
 
       -- the counts have room, and the arena after it is in order
-      roomy : length (entries_of schedule) ≤ 4000 → Roomy book
+      roomy : length schedule ≤ 16000 → Roomy book
       roomy few =
+          let entries_few : length (entries_of schedule) ≤ 4000 = omega (arith, entries_quotient schedule) in
           let calls = passing_few (run_starts_at r) done in
           let refusals = passing_few (λ time. is_refused (event_at (fresh_words layout2 workers nodes) (entries_of schedule) time)) done in
           let waits_few = passing_few (λ time. is_waits (event_at (fresh_words layout2 workers nodes) (entries_of schedule) time)) done in (
@@ -183,11 +185,13 @@ module _ (workers nodes : ℕ) (schedule lent lent_waits : List ℕ) where
       unfolding arena_at
       after_is = ap (λ a. after a next) now.arena_is
 
-      in_order : accepted [] ≡ replied (header_refusals (after words next)) []
-      in_order = rw after_is (sym (none_accepts (header_refusals (arena r (suc done))) refused (accepted []) (sound r (suc done)).none))
-
-      unbroken : is_broken (after words next) ≡ false
-      unbroken = rw after_is (whole (sound r (suc done)) (always r (suc done)))
+      in_order : InOrder (after words next)
+      in_order =
+          rw after_is
+          record {
+            header = sym (none_accepts (header_refusals (arena r (suc done))) refusing (accepted []) (sound r (suc done)).none);
+            whole = whole (sound r (suc done)) (always r (suc done));
+          }
 
       goes_on : call_width * count_in is_operation (entries_of schedule) ≤ length lent →
           wait_width * count_in is_turn (entries_of schedule) ≤ length lent_waits →
@@ -210,28 +214,20 @@ module _ (workers nodes : ℕ) (schedule lent lent_waits : List ℕ) where
           }
 
       -- in the words of the code
-      module _ (whole_entries : length schedule % entry_width ≡ 0) where
-        pub may_enter : length schedule ≤ 16000 →
-            Roomy book × ((accepted [] ≡ replied (header_refusals (after words read)) []) × (is_broken (after words read) ≡ false))
-        may_enter few = (
-          roomy (omega (arith, entries_count schedule whole_entries)),
-          (
-            subst (λ x. accepted [] ≡ replied (header_refusals (after words x)) []) (next_is whole_entries) in_order,
-            subst (λ x. is_broken (after words x) ≡ false) (next_is whole_entries) unbroken,
-          ),
-        )
+      pub may_enter : length schedule ≤ 16000 → Roomy book × InOrder (after words read)
+      may_enter few = (roomy few, subst (λ x. InOrder (after words x)) next_is in_order)
 
-        pub entered : call_width * count_in is_operation (entries_of schedule) ≤ length lent →
-            wait_width * count_in is_turn (entries_of schedule) ≤ length lent_waits → {words' history' waits' : List ℕ} {book' : Book} →
-            words' ≡ after words read → history' ≡ calls_after words (done + 1) read book history →
-            waits' ≡ waits_after words (done + 1) read book waits →
-            book' ≡ book_after words (done + 1) read book → Running (done + 1) book' words' history' waits'
-        entered room wait_room w h v b =
-            rw (w, h, v, b, add-one)
-            (subst
-            (λ x. Running (suc done) (book_after words (suc done) x book) (after words x) (calls_after words (suc done) x book history)
-            (waits_after words (suc done) x book waits))
-            (next_is whole_entries) (goes_on room wait_room))
+      pub entered : call_width * count_in is_operation (entries_of schedule) ≤ length lent →
+          wait_width * count_in is_turn (entries_of schedule) ≤ length lent_waits → {words' history' waits' : List ℕ} {book' : Book} →
+          words' ≡ after words read → history' ≡ calls_after words (done + 1) read book history →
+          waits' ≡ waits_after words (done + 1) read book waits →
+          book' ≡ book_after words (done + 1) read book → Running (done + 1) book' words' history' waits'
+      entered room wait_room w h v b =
+          rw (w, h, v, b, add-one)
+          (subst
+          (λ x. Running (suc done) (book_after words (suc done) x book) (after words x) (calls_after words (suc done) x book history)
+          (waits_after words (suc done) x book waits))
+          next_is (goes_on room wait_room))
 
   -- at the end
   module _ {book : Book} {words history waits : List ℕ} (end : Running (length (entries_of schedule)) book words history waits) where
@@ -244,7 +240,7 @@ module _ (workers nodes : ℕ) (schedule lent lent_waits : List ℕ) where
         end.history_is
         ∙ ap (λ records. flat_words call_words records ++ drop (call_width * length (starts whole_run (last whole_run))) lent) same
         ∙ ap (λ n. flat_words call_words (records_of workers nodes schedule) ++ drop n lent)
-        (sym (flat_length calls_stand (records_of workers nodes schedule) ∙ ap (λ n. call_width * n) counts))
+        (sym (flat_length call_laws (records_of workers nodes schedule) ∙ ap (λ n. call_width * n) counts))
       where
         same : map (record_by whole_run (last whole_run)) (starts whole_run (last whole_run)) ≡ records_of workers nodes schedule
         same =
@@ -263,7 +259,7 @@ module _ (workers nodes : ℕ) (schedule lent lent_waits : List ℕ) where
         = sym (map-map wait_of (wait_at (fresh_words layout2 workers nodes) (entries_of schedule)) times) in
         end.waits_are
         ∙ ap (λ n. flat_words wait_words (map (run_wait_at whole_run) times) ++ drop n lent_waits)
-        (ap (λ n. wait_width * n) (sym (length-map times (run_wait_at whole_run))) ∙ sym (flat_length waits_stand (map (run_wait_at whole_run) times)))
+        (ap (λ n. wait_width * n) (sym (length-map times (run_wait_at whole_run))) ∙ sym (flat_length wait_laws (map (run_wait_at whole_run) times)))
         ∙ ap (λ records. told (flat_words wait_words records) lent_waits) same
 
     pub totals_end : record { entries = length (entries_of schedule); refused = book.refused; waits = book.waits; calls = book.calls }

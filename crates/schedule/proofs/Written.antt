@@ -16,9 +16,10 @@ use Rattle.linear.proofs.OpenCalls.{only_open, At}
 use Rattle.linear.proofs.Waiting.{starts}
 use Rattle.schedule.specs.declared.Call.{Call}
 use Rattle.schedule.specs.declared.book.Book.{Book}
-use Rattle.schedule.specs.Run.{record_of, call_width, call_words, flat_words}
+use Rattle.schedule.specs.Records.{flat_words}
+use Rattle.schedule.specs.Run.{record_of, call_width, call_words, call_laws}
 use Rattle.schedule.specs.Book.{call_in, with_call}
-use Rattle.schedule.proofs.Flat.{calls_stand, held_by, flat_read, flat_write}
+use Rattle.schedule.proofs.Flat.{held_by, flat_read, flat_write}
 use Rattle.schedule.proofs.CallsBy.{finish_by, call_by, call_done, call_quiet, open_or_done}
 use Rattle.schedule.proofs.Booked.{Booked}
 
@@ -101,7 +102,7 @@ module _ (r : Schedule) where
 
         pub its_record : (rest : List ℕ) → call_in (flat_words call_words (records now) ++ rest) number ≡ record_by now (suc at.origin)
         its_record rest =
-            flat_read calls_stand (records now) rest number (record_by now 0) (rw length-map placed.0)
+            flat_read call_laws (records now) rest number (record_by now 0) (rw length-map placed.0)
             ∙ get_or-map (record_by now) (starts r now) number 0
             ∙ ap (record_by now) placed.1
 
@@ -109,5 +110,5 @@ module _ (r : Schedule) where
         pub written_there : (rest : List ℕ) (call : Call) → call ≡ record_by (suc now) (suc at.origin) →
             with_call (flat_words call_words (records now) ++ rest) number call ≡ flat_words call_words (map (record_by (suc now)) (starts r now)) ++ rest
         written_there rest call is =
-            flat_write calls_stand (records now) rest number call (rw length-map placed.0)
+            flat_write call_laws (records now) rest number call (rw length-map placed.0)
             ∙ ap (λ calls. flat_words call_words calls ++ rest) (ap (set (records now) number) is ∙ sym rewritten)

@@ -1,45 +1,34 @@
 -- The books that a run keeps from entry to entry, and what an entry does to them: for the contracts of the run's inner functions.
-use Rattle.std.specs.Prelude.{ℕ, zero, suc, ◌+◌, ◌*◌, ◌<◌, List, Bool, cond, ◌&&◌, length, get_or, set, replicate, eqb}
-use Rattle.std.proofs.lemmas.List.Edits.{sets}
+use Rattle.std.specs.Prelude.{◌≡◌, ℕ, zero, suc, ◌<◌, List, [], Bool, false, cond, ◌&&◌, get_or, set, replicate, eqb}
 use Rattle.worker.specs.Worker.{remove, contains}
 use Rattle.worker.specs.Report.{answer_number}
 use Rattle.worker.specs.declared.Worker.{Worker}
 use Rattle.worker.specs.declared.report.Answer.TheVariants.{Yes}
 use Rattle.worker.specs.declared.report.Report.TheVariants as report
 use Rattle.words.specs.Layout.{workers_of}
+use Rattle.words.specs.Header.{header_refusals}
+use Rattle.words.specs.Replies.{accepted, replied}
 use Rattle.words.specs.Records.{worker_at}
 use Rattle.arena.specs.Sets.{member, is_none, walk_of, set_of}
 use Rattle.linear.specs.Entries.{Entry, Event, call_started, turn_reported, entry_refused, event_of, after}
 use Rattle.linear.specs.History.{is_decision, is_late}
 use Rattle.schedule.specs.declared.Call.{Call}
-use Rattle.schedule.specs.declared.Wait.{Wait}
 use Rattle.schedule.specs.declared.book.Book.{Book}
-use Rattle.schedule.specs.Run.{call_width, call_words, wait_width, wait_words}
+use Rattle.schedule.specs.declared.entry.Entry as read
+use Rattle.schedule.specs.Records.{record_in, with_record}
+use Rattle.schedule.specs.Run.{entry_of, call_width, call_words, first_call, wait_words}
 
--- record i of flat words, read field by field and written
-unfoldable pub call_in : List ℕ → ℕ → Call
-call_in words i =
-    record {
-      worker = get_or words (call_width * i) 0;
-      operation = get_or words (call_width * i + 1) 0;
-      key = get_or words (call_width * i + 2) 0;
-      start = get_or words (call_width * i + 3) 0;
-      point = get_or words (call_width * i + 4) 0;
-      finish = get_or words (call_width * i + 5) 0;
-      answer = get_or words (call_width * i + 6) 0;
-    }
+-- an entry by value: what it stands for, and the one whose words come first
+abbrev pub given : read.Entry → Entry
+given entry = entry_of entry.worker entry.act entry.key entry.length
 
-unfoldable pub wait_in : List ℕ → ℕ → Wait
-wait_in words i =
-    record {
-      call = get_or words (wait_width * i) 0;
-      time = get_or words (wait_width * i + 1) 0;
-      node = get_or words (wait_width * i + 2) 0;
-      worker = get_or words (wait_width * i + 3) 0;
-    }
+abbrev pub first_entry : List ℕ → read.Entry
+first_entry words =
+    record { worker = get_or words 0 0; act = get_or words 1 0; key = get_or words 2 0; length = get_or words 3 0 }
 
-unfoldable pub with_record : List ℕ → ℕ → List ℕ → List ℕ
-with_record words i values = sets words (length values * i) values
+-- call i of a history
+abbrev pub call_in : List ℕ → ℕ → Call
+call_in = record_in call_width first_call
 
 -- a call that starts; one whose answer is decided; one that finishes
 abbrev pub new_call : ℕ → ℕ → ℕ → ℕ → Call
@@ -47,60 +36,26 @@ new_call worker operation key start =
     record { worker = worker; operation = operation; key = key; start = start; point = 0; finish = 0; answer = 0 }
 
 abbrev pub decided_call : Call → ℕ → ℕ → Call
-decided_call call point answer =
-    record {
-      worker = call.worker;
-      operation = call.operation;
-      key = call.key;
-      start = call.start;
-      point = point;
-      finish = call.finish;
-      answer = answer;
-    }
+decided_call call point answer = record call { point = point; answer = answer }
 
 abbrev pub finished_call : Call → ℕ → Call
-finished_call call finish =
-    record {
-      worker = call.worker;
-      operation = call.operation;
-      key = call.key;
-      start = call.start;
-      point = call.point;
-      finish = finish;
-      answer = call.answer;
-    }
+finished_call call finish = record call { finish = finish }
 
 -- for each worker: the number of its open call, and the first time at which its contains key was absent, or 0
 abbrev pub new_book : Book
 new_book = record { calls = 0; refused = 0; waits = 0; opened = replicate 8 0; absent = replicate 8 0 }
 
 abbrev pub with_refusal : Book → Book
-with_refusal book =
-    record {
-      calls = book.calls;
-      refused = suc book.refused;
-      waits = book.waits;
-      opened = book.opened;
-      absent = book.absent;
-    }
+with_refusal book = record book { refused = suc book.refused }
 
 abbrev pub with_wait : Book → Book
-with_wait book =
-    record {
-      calls = book.calls;
-      refused = book.refused;
-      waits = suc book.waits;
-      opened = book.opened;
-      absent = book.absent;
-    }
+with_wait book = record book { waits = suc book.waits }
 
 -- a start opens the call with the next number
 abbrev pub with_start : Book → ℕ → ℕ → Book
 with_start book worker absent =
-    record {
+    record book {
       calls = suc book.calls;
-      refused = book.refused;
-      waits = book.waits;
       opened = set book.opened worker book.calls;
       absent = set book.absent worker absent;
     }
@@ -108,6 +63,11 @@ with_start book worker absent =
 -- the chain does not come to its end
 abbrev pub is_broken : List ℕ → Bool
 is_broken arena = is_none (walk_of arena)
+
+-- an arena whose header is accepted and whose chain comes to its end
+pub record InOrder (arena : List ℕ) : Type 0 where
+  pub header : accepted [] ≡ replied (header_refusals arena) []
+  pub whole : is_broken arena ≡ false
 
 -- a contains whose key is absent at its start has missed it at once
 abbrev pub absent_from : List ℕ → ℕ → ℕ → ℕ → ℕ
@@ -126,8 +86,7 @@ missed worker zero key time absent = absent
 missed worker (suc v) key time absent = missed_one v (worker v) key time (missed worker v key time absent)
 
 abbrev pub with_absent : Book → List ℕ → Book
-with_absent book absent =
-    record { calls = book.calls; refused = book.refused; waits = book.waits; opened = book.opened; absent = absent }
+with_absent book absent = record book { absent = absent }
 
 -- a turn that moves, by the worker's record before it and the answer that is kept then: it decides an answer; it takes a key out where that
 -- is a remove's yes

@@ -1,10 +1,13 @@
 -- run (document 01: run a schedule on a board that it lays itself; document 02, A1: and write its waits, A2: of layout 2).
-use Rattle.std.specs.Prelude.{ℕ, ◌/◌, ◌%◌, Bool, not, ◌||◌, length, drop, ltb, eqb}
-use mathlib.Core.List.{List, [], ◌∷◌, ◌++◌, map, flatten}
+use Rattle.std.specs.Prelude.{ℕ, ◌/◌, ◌%◌, Bool, not, ◌||◌, length, get_or, drop, ltb, eqb, Result, OnOk}
+use Rattle.std.proofs.Common.{refl, lit<}
+use mathlib.Core.List.{List, [], ◌∷◌, ◌++◌, map}
 use Rattle.worker.specs.Worker.{add, contains, within}
-use Rattle.worker.specs.Refusals.{Refusal, judged, bad_counts, bad_schedule, short_arena, no_room}
+use Rattle.worker.specs.Refusals.{Test, judged}
+use Rattle.worker.specs.declared.refusal.Refusal.{Refusal}
+use Rattle.worker.specs.declared.refusal.Refusal.TheVariants.{BadCounts, BadSchedule, ShortArena, NoRoom}
 use Rattle.words.specs.Layout.{layout2, good_counts, total}
-use Rattle.words.specs.Replies.{Reply, refused, accepted, replied, written}
+use Rattle.words.specs.Replies.{Reply, replied, written}
 use Rattle.arena.specs.Init.{fresh_words}
 use Rattle.arena.specs.Lists.{filter}
 use Rattle.linear.specs.Entries.{Entry, is_turn}
@@ -13,8 +16,7 @@ use Rattle.linear.specs.Linearizable.{Linearizable}
 use Rattle.schedule.specs.declared.Call.{Call}
 use Rattle.schedule.specs.declared.Wait.{Wait}
 use Rattle.schedule.specs.declared.Totals.{Totals}
-use Rattle.schedule.specs.declared.Summary.{Summary}
-use Rattle.schedule.specs.declared.Summary.TheVariants as summary
+use Rattle.schedule.specs.Records.{flat_words, RecordLaws}
 
 -- entries are four words: worker, act, key, length
 abbrev pub entry_width : ℕ
@@ -43,13 +45,13 @@ unfoldable pub is_bad_schedule : List ℕ → Bool
 is_bad_schedule schedule = not (eqb (length schedule % entry_width) 0) || ltb 16000 (length schedule)
 
 -- a run lays layout 2. Order: 10, 9, 1, 8; `call_room` and `wait_room` are the numbers of records that are lent for calls and for waits
-unfoldable pub run_refusals : List ℕ → ℕ → ℕ → List ℕ → ℕ → ℕ → List Refusal
+unfoldable pub run_refusals : List ℕ → ℕ → ℕ → List ℕ → ℕ → ℕ → List Test
 run_refusals arena workers nodes schedule call_room wait_room =
-    (not (good_counts layout2 workers nodes), bad_counts)
-    ∷ (is_bad_schedule schedule, bad_schedule)
-    ∷ (ltb (length arena) (total layout2 workers nodes), short_arena)
-    ∷ (ltb call_room (count_in is_operation (entries_of schedule)), no_room)
-    ∷ (ltb wait_room (count_in is_turn (entries_of schedule)), no_room)
+    (not (good_counts layout2 workers nodes), BadCounts)
+    ∷ (is_bad_schedule schedule, BadSchedule)
+    ∷ (ltb (length arena) (total layout2 workers nodes), ShortArena)
+    ∷ (ltb call_room (count_in is_operation (entries_of schedule)), NoRoom)
+    ∷ (ltb wait_room (count_in is_turn (entries_of schedule)), NoRoom)
     ∷ []
 
 -- the run returns entries, refused, waits, calls: the totals of the list of its entries on the arena it lays
@@ -93,8 +95,8 @@ waits_of workers nodes schedule = map wait_of (history.waits (fresh_words layout
 abbrev pub told : {A : Type 0} → List A → List A → List A
 told records row = records ++ drop (length records) row
 
-unfoldable pub row_after : {A : Type 0} → List Refusal → List A → List A → List A
-row_after refusals records row = judged refusals (λ number. row) (told records row)
+unfoldable pub row_after : {A : Type 0} → List Test → List A → List A → List A
+row_after refusals records row = judged refusals (λ refusal. row) (told records row)
 
 -- the two rows of records
 abbrev pub run_records : List ℕ → ℕ → ℕ → List ℕ → List Call → ℕ → List Call
@@ -105,7 +107,7 @@ abbrev pub run_waits : List ℕ → ℕ → ℕ → List ℕ → ℕ → List Wa
 run_waits arena workers nodes schedule call_room row =
     row_after (run_refusals arena workers nodes schedule call_room (length row)) (waits_of workers nodes schedule) row
 
--- the same in flat words, seven to a call and four to a wait
+-- the same in flat words: a call has seven, a wait four; the record that stands first has zeros where words are missing
 abbrev pub call_width : ℕ
 call_width = 7
 
@@ -113,14 +115,33 @@ abbrev pub call_words : Call → List ℕ
 call_words call =
     call.worker ∷ call.operation ∷ call.key ∷ call.start ∷ call.point ∷ call.finish ∷ call.answer ∷ []
 
+abbrev pub first_call : List ℕ → Call
+first_call words =
+    record {
+      worker = get_or words 0 0;
+      operation = get_or words 1 0;
+      key = get_or words 2 0;
+      start = get_or words 3 0;
+      point = get_or words 4 0;
+      finish = get_or words 5 0;
+      answer = get_or words 6 0;
+    }
+
 abbrev pub wait_width : ℕ
 wait_width = 4
 
 abbrev pub wait_words : Wait → List ℕ
 wait_words wait = wait.call ∷ wait.time ∷ wait.node ∷ wait.worker ∷ []
 
-abbrev pub flat_words : {A : Type 0} → (A → List ℕ) → List A → List ℕ
-flat_words words records = flatten (map words records)
+abbrev pub first_wait : List ℕ → Wait
+first_wait words =
+    record { call = get_or words 0 0; time = get_or words 1 0; node = get_or words 2 0; worker = get_or words 3 0 }
+
+pub call_laws : RecordLaws call_width call_words first_call
+call_laws = record { narrow = lit< tt; wide = λ call. refl; read_back = λ call rest. refl }
+
+pub wait_laws : RecordLaws wait_width wait_words first_wait
+wait_laws = record { narrow = lit< tt; wide = λ wait. refl; read_back = λ wait rest. refl }
 
 abbrev pub run_call_words : List ℕ → ℕ → ℕ → List ℕ → List ℕ → List ℕ → List ℕ
 run_call_words arena workers nodes schedule calls waits =
@@ -137,13 +158,10 @@ abbrev pub totals_of : history.Totals → Totals
 totals_of totals =
     record { entries = totals.entries; refused = totals.refused; waits = totals.waits; calls = totals.calls }
 
--- what a run answers: the totals, or the number of a refusal
-abbrev pub summary_reply : Summary → Reply
-summary_reply (summary.Done totals) =
-    accepted (totals.entries ∷ totals.refused ∷ totals.waits ∷ totals.calls ∷ [])
-summary_reply (summary.Refused number) = refused number
+-- what a run gives: entries, refused, waits, calls
+abbrev pub totals_values : Totals → List ℕ
+totals_values totals = totals.entries ∷ totals.refused ∷ totals.waits ∷ totals.calls ∷ []
 
 -- demand 3, of a run that is done
-abbrev pub DoneLinearizable : Summary → ℕ → ℕ → List ℕ → Type 0
-DoneLinearizable (summary.Done totals) workers nodes schedule = Linearizable (fresh_words layout2 workers nodes) (entries_of schedule)
-DoneLinearizable (summary.Refused number) workers nodes schedule = Unit {0}
+abbrev pub DoneLinearizable : Result Totals Refusal → ℕ → ℕ → List ℕ → Type 0
+DoneLinearizable answer workers nodes schedule = OnOk answer (Linearizable (fresh_words layout2 workers nodes) (entries_of schedule))

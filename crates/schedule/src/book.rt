@@ -13,7 +13,7 @@ pub(crate) struct Book {
     pub(crate) waits: u16,
     // the number of the call
     pub(crate) opened: [u16; 8],
-    // of a contains the first time at which its key was absent, or 0
+    // of a contains the first time at which its key was absent, or 0; a row of its own and no pair with the number, since `miss` changes it alone
     pub(crate) absent: [u16; 8],
 }
 
@@ -51,44 +51,36 @@ impl Book {
         ensures { result ≡ with_start self worker absent }
     {
         let number = self.calls;
-        let at = worker as usize;
+        words::put(&mut self.opened, worker as usize, number);
+        words::put(&mut self.absent, worker as usize, absent);
         self.calls = number + 1;
-        if 8 <= at {
-            return self;
-        }
-        self.opened[at] = number;
-        self.absent[at] = absent;
         self
     }
 
     pub(crate) fn open_call(self, worker: u16) -> u16
         ensures { result ≡ get_or self.opened worker 0 }
     {
-        let at = worker as usize;
-        if at < 8 { self.opened[at] } else { 0 }
+        words::word(&self.opened, worker as usize)
     }
 
     pub(crate) fn absent_time(self, worker: u16) -> u16
         ensures { result ≡ get_or self.absent worker 0 }
     {
-        let at = worker as usize;
-        if at < 8 { self.absent[at] } else { 0 }
+        words::word(&self.absent, worker as usize)
     }
 
     // The key has left the set: a worker that looks it up, and has not missed it before, misses it now.
     fn miss_one(mut self, v: u16, worker: Worker, key: u16, time: u16) -> Self
         ensures { result ≡ with_absent self (missed_one v worker key time self.absent) }
     {
-        let at = v as usize;
-        if 8 <= at {
-            return self;
-        }
-        if (worker.operation == Worker::CONTAINS) & (worker.key == key) & (self.absent[at] == 0) {
-            self.absent[at] = time;
+        let looks_up = (worker.operation == Worker::CONTAINS) & (worker.key == key);
+        if looks_up & (self.absent_time(v) == 0) {
+            words::put(&mut self.absent, v as usize, time);
         }
         self
     }
 
+    #[tactic(auto, unfolding(crate::specs::Book::missed))]
     pub(crate) fn miss(mut self, arena: &[u16], workers: u16, key: u16, time: u16) -> Self
         ensures { result ≡ with_absent self (missed (worker_at arena.now) workers key time self.absent) }
     {

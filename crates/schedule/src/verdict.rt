@@ -1,21 +1,18 @@
 // The refusals of a run.
-ghost use Rattle.std.specs.Prelude.{◌≡◌, [], leb};
+ghost use Rattle.std.specs.Prelude.{◌≡◌, [], leb, IfOk};
 ghost use Rattle.worker.specs.Worker.{within};
-ghost use Rattle.words.specs.Replies.{verdict_reply, replied};
+ghost use Rattle.words.specs.Layout.{layout2};
+ghost use Rattle.words.specs.Replies.{no_values, reply, replied};
 ghost use Rattle.schedule.specs.Run.{is_bad_schedule, entries_of, count_in, run_refusals};
 
-use words::{Verdict, layout};
-use worker::{Worker, refusal};
-
-// Words of an entry: worker, act, key, length.
-pub(crate) const ENTRY_WIDTH: usize = 4;
+use crate::entry::Entry;
+use words::layout::{Counts, LAYOUT_2};
+use worker::{Refusal, Worker};
 
 const MOST_WORDS: usize = 16000;
 
-// The act of a turn; the others are operations to start.
-pub(crate) const TURN: u16 = 0;
-
 // The rooms are the numbers of records that are lent for calls and for waits.
+#[tactic(auto, using(crate::proofs::EntryLaws::turns_within, crate::proofs::EntryLaws::below_or_not), unfolding(crate::specs::Run::run_refusals))]
 pub(crate) fn run_verdict(
     arena: &[u16],
     workers: u16,
@@ -23,56 +20,54 @@ pub(crate) fn run_verdict(
     schedule: &[u16],
     call_room: usize,
     wait_room: usize,
-) -> Verdict
-    ensures { verdict_reply result
+) -> Result<Counts, Refusal>
+    ensures answer { reply no_values result
         ≡ replied (run_refusals arena.now workers nodes schedule.now call_room wait_room) [] }
+    ensures counts { IfOk result (λ counts. (counts.layout ≡ layout2) × (counts.workers ≡ workers) × (counts.nodes ≡ nodes)) }
 {
-    if !layout::good_counts(layout::LAYOUT_2, workers, nodes) {
-        return Verdict::Refused(refusal::BAD_COUNTS);
-    }
+    let counts = Counts::new(LAYOUT_2, workers, nodes).ok_or(Refusal::BadCounts)?;
     if is_bad(schedule) {
-        return Verdict::Refused(refusal::BAD_SCHEDULE);
+        return Err(Refusal::BadSchedule);
     }
-    if arena.len() < layout::total(layout::LAYOUT_2, workers, nodes) {
-        return Verdict::Refused(refusal::SHORT_ARENA);
+    if arena.len() < counts.total() {
+        return Err(Refusal::ShortArena);
     }
     if !has_room(schedule, call_room, Worker::ADD, Worker::CONTAINS) {
-        return Verdict::Refused(refusal::NO_ROOM);
+        return Err(Refusal::NoRoom);
     }
-    if !has_room(schedule, wait_room, TURN, TURN) {
-        return Verdict::Refused(refusal::NO_ROOM);
+    if !has_room(schedule, wait_room, Entry::TURN, Entry::TURN) {
+        return Err(Refusal::NoRoom);
     }
-    Verdict::Accepted
+    Ok(counts)
 }
 
+#[tactic(auto, unfolding(crate::specs::Run::is_bad_schedule))]
 fn is_bad(schedule: &[u16]) -> bool
     ensures { result ≡ is_bad_schedule schedule.now }
 {
-    !(schedule.len() % ENTRY_WIDTH == 0) | (MOST_WORDS < schedule.len())
+    schedule.len() % Entry::WIDTH != 0 || MOST_WORDS < schedule.len()
 }
 
-// A row has room for the entries with an act from `low` to `high`. They are counted only where it has none for all entries.
+// A row has room for the entries with an act from `low` to `high`: the definition's ranges, so a closure says no more. They are counted only
+// where it has none for all entries.
+#[tactic(auto, using(crate::proofs::EntryLaws::count_few))]
 fn has_room(schedule: &[u16], room: usize, low: u16, high: u16) -> bool
     ensures { result ≡ leb (count_in (λ entry. within low high entry.act) (entries_of schedule.now)) room }
 {
-    if schedule.len() / ENTRY_WIDTH <= room {
-        return true;
-    }
-    acts_in(schedule, low, high) <= room
+    schedule.len() / Entry::WIDTH <= room || acts_in(schedule, low, high) <= room
 }
 
 // How many entries have an act from `low` to `high`.
 fn acts_in(schedule: &[u16], low: u16, high: u16) -> usize
     ensures { result ≡ count_in (λ entry. within low high entry.act) (entries_of schedule.now) }
 {
+    // A chain with `filter` and `count` was not proved.
     let mut count = 0;
-    let mut at = 0;
-    while ENTRY_WIDTH <= schedule.len() - at {
-        let act = schedule[at + 1];
+    for words in schedule.chunks_exact(Entry::WIDTH) {
+        let act = Entry::first(words).act;
         if (low <= act) & (act <= high) {
             count += 1;
         }
-        at += ENTRY_WIDTH;
     }
     count
 }

@@ -3,13 +3,13 @@
 use Rattle.std.specs.Prelude.{ℕ, zero, suc, List, [], ◌∷◌, ◌++◌, replicate}
 use Rattle.worker.specs.Node.{head, no_node}
 use Rattle.worker.specs.Worker.{add, remove, contains}
-use Rattle.worker.specs.Refusals.{short_arena, odd_header, busy, bad_call, no_room, bad_counts}
+use Rattle.worker.specs.declared.refusal.Refusal.TheVariants.{ShortArena, OddHeader, Busy, BadCall, NoRoom, BadCounts}
 use Rattle.worker.specs.Report.{report_values}
 use Rattle.worker.specs.declared.report.Answer.TheVariants.{Yes, No}
 use Rattle.worker.specs.declared.report.Report.{Report}
 use Rattle.worker.specs.declared.report.Report.TheVariants.{Idle, Waits, Finished}
 use Rattle.words.specs.Layout.{word, layout1, layout2}
-use Rattle.words.specs.Replies.{Reply, refused, accepted}
+use Rattle.words.specs.Replies.{Reply, accepted, refusing}
 use Rattle.arena.specs.Init.{init_answer, init_arena}
 use Rattle.arena.specs.Start.{start_answer, start_arena}
 use Rattle.arena.specs.Snapshot.{snapshot_answer}
@@ -96,16 +96,16 @@ cases =
     row 28 [] small (accepted [])
     ∷ row 28 (small ∷ []) (look 4) (accepted (16 ∷ []))
     ∷ row 28 (small ∷ []) (look 5) (accepted (28 ∷ []))
-    ∷ row 27 [] small (refused short_arena)
+    ∷ row 27 [] small (refusing ShortArena)
     -- N 2: 10; W 9: 10
-    ∷ row 28 [] (init layout1 1 2) (refused bad_counts)
-    ∷ row 92 [] (init layout1 9 3) (refused bad_counts)
+    ∷ row 28 [] (init layout1 1 2) (refusing BadCounts)
+    ∷ row 92 [] (init layout1 9 3) (refusing BadCounts)
     -- start with key 0: 5; with 65,535: 5; 65,534 is accepted
-    ∷ row 28 (small ∷ []) (start 0 add 0 0) (refused bad_call)
-    ∷ row 28 (small ∷ []) (start 0 add 65535 0) (refused bad_call)
+    ∷ row 28 (small ∷ []) (start 0 add 0 0) (refusing BadCall)
+    ∷ row 28 (small ∷ []) (start 0 add 65535 0) (refusing BadCall)
     ∷ row 28 (small ∷ []) (start 0 add 65534 0) (accepted [])
     -- key 0 on a busy worker: 4
-    ∷ row 28 (small ∷ start 0 contains 5 0 ∷ []) (start 0 add 0 0) (refused busy)
+    ∷ row 28 (small ∷ start 0 contains 5 0 ∷ []) (start 0 add 0 0) (refusing Busy)
     -- turn of an idle worker: idle
     ∷ row 28 (small ∷ []) (turns 0 1) (report_reply Idle)
     -- alone on an empty set: add 5 takes 14 turns, contains 5 takes 5
@@ -122,29 +122,29 @@ cases =
     -- layout 2, W 1, N 3: total 31; 30 words: 1
     ∷ row 31 [] small2 (accepted [])
     ∷ row 31 (small2 ∷ []) (look 5) (accepted (31 ∷ []))
-    ∷ row 30 [] small2 (refused short_arena)
+    ∷ row 30 [] small2 (refusing ShortArena)
     -- a layout wanted other than 1 or 2: 10
-    ∷ row 31 [] (init 3 1 3) (refused bad_counts)
+    ∷ row 31 [] (init 3 1 3) (refusing BadCounts)
     -- an add with length 0: 5; key plus length is at most 65,535
-    ∷ row 31 (small2 ∷ []) (start 0 add 5 0) (refused bad_call)
+    ∷ row 31 (small2 ∷ []) (start 0 add 5 0) (refusing BadCall)
     ∷ row 31 (small2 ∷ []) (start 0 add 65534 1) (accepted [])
-    ∷ row 31 (small2 ∷ []) (start 0 add 65534 2) (refused bad_call)
+    ∷ row 31 (small2 ∷ []) (start 0 add 65534 2) (refusing BadCall)
     -- a remove with a length: 5; on layout 1 an add with a length: 5
-    ∷ row 31 (small2 ∷ []) (start 0 remove 5 1) (refused bad_call)
-    ∷ row 28 (small ∷ []) (start 0 add 5 1) (refused bad_call)
+    ∷ row 31 (small2 ∷ []) (start 0 remove 5 1) (refusing BadCall)
+    ∷ row 28 (small ∷ []) (start 0 add 5 1) (refusing BadCall)
     -- alone on an empty set: add 5 with length 3 takes 14 turns too, and the fifth word of node 2 is then the length
     ∷ row 31 (small2 ∷ start 0 add 5 3 ∷ []) (turns 0 14) (report_reply (Finished Yes))
     ∷ row 31 (small2 ∷ start 0 add 5 3 ∷ turns 0 14 ∷ []) (look 30) (accepted (3 ∷ []))
     -- with only 5 stored, remove 5 marks its node in its tenth turn and unlinks it in its twelfth: from the tenth on no key is listed, and no
     -- room is needed (document 02, A3)
     ∷ row 28 (removing 9) (list 1) (accepted (1 ∷ []))
-    ∷ row 28 (removing 9) (list 0) (refused no_room)
+    ∷ row 28 (removing 9) (list 0) (refusing NoRoom)
     ∷ row 28 (removing 10) (list 0) (accepted (0 ∷ []))
     ∷ row 28 (removing 12) (list 0) (accepted (0 ∷ []))
     -- fewer than 8 words: 1; 28 zeros: 2; on a fresh arena node 2 is free, and Head and Tail are read; with 5 stored no node is, and all are
     -- read; the removed node is free once the call has finished, and not before (document 02, A4)
-    ∷ row 7 [] search (refused short_arena)
-    ∷ row 28 [] search (refused odd_header)
+    ∷ row 7 [] search (refusing ShortArena)
+    ∷ row 28 [] search (refusing OddHeader)
     ∷ row 28 (small ∷ []) search (accepted (2 ∷ 2 ∷ []))
     ∷ row 28 (stored contains) search (accepted (no_node ∷ 3 ∷ []))
     ∷ row 28 (removing 14) search (accepted (no_node ∷ 3 ∷ []))

@@ -1,12 +1,10 @@
 -- What the tests on counts say of the numbers, and how large offsets get.
-use Prim.Native.Nat.{ℕ, ◌+◌, ◌*◌, ◌≤◌, ◌<◌, ◌^◌}
+use Prim.Native.Nat.{ℕ, ◌+◌, ◌*◌, ◌≤◌}
 use mathlib.Core.Path.{◌≡◌}
 use mathlib.Core.Bool.{Bool, true, false, cond, and-eq-true_iff}
 use native.Mathlib.Omega.{arith}
 use native.Mathlib.Decide.{ℕ_discrete}
-use native.Mathlib.Nat.{lt_of_le_of_lt, le_of_lt, mul-le-mul_left, mul-lt-mul_of_pos_right}
 use lib.Dec.{eqb}
-use lib.Pow.{pow_pos}
 use Rattle.worker.specs.Worker.{within}
 use Rattle.worker.proofs.Laws.{range_bounds}
 use Rattle.words.specs.Layout.{good_counts, node_width, worker_from, total}
@@ -63,7 +61,3 @@ narrow layout = go (eqb layout 1) (eqb layout 2)
 pub total_fits : (layout workers nodes : ℕ) → Counts layout workers nodes → total layout workers nodes ≤ 5192
 total_fits layout workers nodes k =
     by_layout (λ width. worker_from workers + width * nodes ≤ 5192) k.some_layout k.few_layouts (omega (arith, k)) (omega (arith, k))
-
--- the product of two 16-bit numbers fits 32 bits
-pub product_fits : {a b : ℕ} → a < 2 ^ 16 → b < 2 ^ 16 → a * b < 2 ^ 32
-product_fits {a} {b} ha hb = lt_of_le_of_lt (mul-le-mul_left a (le_of_lt hb)) (mul-lt-mul_of_pos_right ha (pow_pos 16))

@@ -11,9 +11,10 @@ use lib.Seq.{get_or-take, length-take-le, ext_get_or}
 use lib.Dec.{eqb}
 use borrow.Author.Tests.{eqb-true, eq-eqb, ltb-false, not-false}
 use Rattle.words.specs.Layout.{word, header_width, nodes_from, total, node_width, node_part, good_counts, header_words, layout_of, workers_of, nodes_of, nodes_from_of, total_of}
+use Rattle.words.specs.Records.{Spans}
 use Rattle.words.specs.Replies.{accepted, replied}
 use Rattle.words.specs.Header.{agrees, is_header, HeaderOfSome, header_refusals}
-use Rattle.words.proofs.Bounds.{Counts, counts}
+use Rattle.words.proofs.Bounds.{Counts, counts, wide}
 use Rattle.words.proofs.Judged.{none_holds}
 
 -- words that agree are equal, one by one
@@ -67,6 +68,11 @@ part_long arena header =
     let span : total_of arena - from ≡ node_width (layout_of arena) * nodes_of arena = omega (arith, header.from, header.end) in
     let fits : total_of arena - from ≤ length (drop from arena) = rw length-drop (omega (arith, header.whole)) in
     length-take-le (total_of arena - from) (drop from arena) fits ∙ span
+
+-- behind a header in order the walks may rely on all that they do
+pub all_spanned : (arena : List ℕ) → Header arena → Spans (node_width (layout_of arena)) (nodes_of arena) (node_part arena)
+all_spanned arena header =
+    let long = part_long arena header in (omega (arith, wide header.good), omega arith, omega (arith, header.good))
 
 -- the test is document 01's
 pub header_of_some : (arena : List ℕ) → header_width ≤ length arena → (is_header arena ≡ true) ↔ HeaderOfSome arena

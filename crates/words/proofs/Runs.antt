@@ -6,7 +6,7 @@ use mathlib.Core.Bool.{true, false}
 use native.Mathlib.Nat.{zero-add, add-zero, add-suc, suc-add, add_comm, mul-zero, mul-suc}
 use native.Mathlib.Numerals.{add-one, sub-one}
 use native.Mathlib.Omega.{arith}
-use lib.ListN.{length, drop, set, replicate, length-append, length-set, length-replicate, replicate-append-replicate, drop_of_length-le}
+use lib.ListN.{length, drop, set, length-replicate, replicate, length-append, length-set, replicate-append-replicate, drop_of_length-le}
 use lib.Seq.{sets, sets-eq, set_out, set_at, get_or-set_same, get_or-set_other, set-get_or, set-append_left, drop-cons, drop-length, append_snoc}
 use borrow.Author.Tests.{eq-eqb, ne_eqb}
 use borrow.Rule.Slice.PartMut.{put_mid, Post-is}
@@ -17,11 +17,6 @@ use Rattle.words.specs.Header.{agrees}
 pub sets_append : (vs ws l : List ℕ) (i : ℕ) → sets l i (vs ++ ws) ≡ sets (sets l i vs) (i + length vs) ws
 sets_append [] ws l i = rw add-zero
 sets_append (v ∷ vs) ws l i = rw (add-suc, ← suc-add) (sets_append vs ws (set l i v) (suc i))
-
--- the first word of what is left of a run, and then the others
-pub sets_on : (vs l : List ℕ) (i k : ℕ) → k < length vs →
-    sets l (i + k) (drop k vs) ≡ sets (set l (i + k) (word vs k)) (i + (k + 1)) (drop (k + 1) vs)
-sets_on vs l i k h = rw (add-one, drop-cons vs k 0 h, add-suc)
 
 -- the first of some copies, and then the others
 pub copies_on : (vs l : List ℕ) (i k : ℕ) → 0 < k →

@@ -1,6 +1,7 @@
 -- The header test: refusals 1 and 2.
 use Rattle.std.specs.Prelude.{ℕ, suc, ◌≡◌, List, [], ◌∷◌, Bool, true, not, ◌&&◌, ◌||◌, length, take, ltb, eqb}
-use Rattle.worker.specs.Refusals.{Refusal, short_arena, odd_header}
+use Rattle.worker.specs.Refusals.{Test}
+use Rattle.worker.specs.declared.refusal.Refusal.TheVariants.{ShortArena, OddHeader}
 use Rattle.words.specs.Layout.{word, header_width, good_counts, header_words, layout_of, workers_of, nodes_of, total_of}
 
 -- the words from a place on are these
@@ -24,8 +25,8 @@ HeaderOfSome arena =
     × (take header_width arena ≡ header_words layout workers nodes)
 
 -- fewer than 8 words, or than word 5 says: 1; an odd header: 2
-unfoldable pub header_refusals : List ℕ → List Refusal
+unfoldable pub header_refusals : List ℕ → List Test
 header_refusals arena =
-    (ltb (length arena) header_width || ltb (length arena) (total_of arena), short_arena)
-    ∷ (not (is_header arena), odd_header)
+    (ltb (length arena) header_width || ltb (length arena) (total_of arena), ShortArena)
+    ∷ (not (is_header arena), OddHeader)
     ∷ []

@@ -1,5 +1,5 @@
 -- Worker and node records as words of an arena.
-use Rattle.std.specs.Prelude.{ℕ, ◌+◌, ◌≤◌, ◌<◌, ◌⊎◌, List, [], ◌∷◌, cond, take}
+use Rattle.std.specs.Prelude.{ℕ, ◌+◌, ◌*◌, ◌≤◌, ◌<◌, ◌⊎◌, List, [], ◌∷◌, cond, length, take}
 use Rattle.std.proofs.lemmas.List.Edits.{sets}
 use Rattle.worker.specs.declared.Node.{Node}
 use Rattle.worker.specs.declared.Worker.{Worker}
@@ -50,6 +50,10 @@ node_at width nodes node =
       owner = word nodes (slot width node node_owner);
       length = cond (has_length width) (word nodes (slot width node node_length)) 0;
     }
+
+-- the part has a word for the next of each of so many nodes, and the nodes can be counted
+abbrev pub Spans : ℕ → ℕ → List ℕ → Type 0
+Spans width count nodes = (node_next < width) × (width * count ≤ length nodes) × (count ≤ 1024)
 
 abbrev pub key_at : ℕ → List ℕ → ℕ → ℕ
 key_at width nodes node = (node_at width nodes node).key

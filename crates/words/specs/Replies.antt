@@ -1,23 +1,29 @@
 -- What is replied and written, by the refusals in document 01's order.
-use Rattle.std.specs.Prelude.{ℕ, List, []}
-use Rattle.worker.specs.Refusals.{Refusal, judged}
-use Rattle.words.specs.declared.Verdict.{Verdict}
-use Rattle.words.specs.declared.Verdict.TheVariants as verdict
+use Rattle.std.specs.Prelude.{ℕ, List, [], Result, Ok, Err}
+use Rattle.worker.specs.Refusals.{Test, refusal_number, judged}
+use Rattle.worker.specs.declared.refusal.Refusal.{Refusal}
 
 -- a reply: the number of a refusal alone, or the values asked for
 pub data Reply : Type 0 where
   refused : ℕ → Reply
   accepted : List ℕ → Reply
 
--- what each case of a verdict says
-abbrev pub verdict_reply : Verdict → Reply
-verdict_reply verdict.Accepted = accepted []
-verdict_reply (verdict.Refused number) = refused number
+abbrev pub refusing : Refusal → Reply
+refusing refusal = refused (refusal_number refusal)
+
+-- what an answer of the code says: the number of its refusal, or the values of what it gives
+abbrev pub reply : {A : Type 0} → (A → List ℕ) → Result A Refusal → Reply
+reply values (Ok given) = accepted (values given)
+reply values (Err refusal) = refusing refusal
+
+-- of a call that only may be refused nothing is asked
+abbrev pub no_values : {A : Type 0} → A → List ℕ
+no_values given = []
 
 -- what is replied: the number alone, or the values
-abbrev pub replied : List Refusal → List ℕ → Reply
-replied refusals values = judged refusals refused (accepted values)
+abbrev pub replied : List Test → List ℕ → Reply
+replied tests values = judged tests refusing (accepted values)
 
 -- what lent words are at exit: a refusal leaves them as they were
-abbrev pub written : List Refusal → List ℕ → List ℕ → List ℕ
-written refusals before after = judged refusals (λ number. before) after
+abbrev pub written : List Test → List ℕ → List ℕ → List ℕ
+written tests before after = judged tests (λ refusal. before) after

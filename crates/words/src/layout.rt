@@ -1,5 +1,5 @@
 // The word layout: where the header's words and the records stand.
-ghost use Rattle.std.specs.Prelude.{◌≡◌, true, ◌*◌};
+ghost use Rattle.std.specs.Prelude.{◌≡◌, ◌*◌, true, is_some, IfSome};
 ghost use Rattle.worker.specs.Worker.{within};
 ghost use Rattle.words.specs.Layout.{layout1, layout2, node_width, has_length, worker_from, slot, total, good_counts, header_words};
 
@@ -19,7 +19,7 @@ pub const HEADER_WIDTH: usize = 8;
 
 pub const WORKER_WIDTH: usize = 8;
 
-// The layouts; in layout 2 a node has a length.
+// The layouts; in layout 2 a node has a length. Numbers and no enum, as the C interface asks for any.
 pub const LAYOUT_1: u16 = 1;
 
 pub const LAYOUT_2: u16 = 2;
@@ -64,7 +64,7 @@ pub fn node_width(layout: u16) -> u16
 fn is_layout(layout: u16) -> bool
     ensures { result ≡ within layout1 layout2 layout }
 {
-    (LAYOUT_1 <= layout) & (layout <= LAYOUT_2)
+    (LAYOUT_1..=LAYOUT_2).contains(&layout)
 }
 
 // Whether records of so many words have one for the length.
@@ -102,27 +102,53 @@ pub fn total(layout: u16, workers: u16, nodes: u16) -> usize
     worker_from(workers) + (span(node_width(layout), nodes) as usize)
 }
 
-pub fn good_counts(layout: u16, workers: u16, nodes: u16) -> bool
-    ensures { result ≡ good_counts layout workers nodes }
-{
-    is_layout(layout) & ((1 <= workers) & (workers <= 8)) & ((3 <= nodes) & (nodes <= 1024))
+// The layout of an arena, W and N, within document 01's limits.
+#[derive(Clone, Copy)]
+pub struct Counts {
+    pub layout: u16,
+    pub workers: u16,
+    pub nodes: u16,
+    ghost good: { good_counts layout workers nodes ≡ true },
 }
 
-// The header of an arena with these counts. Where they are good, its numbers are words.
-#[tactic(auto, unfolding(crate::specs::Layout::header_words))]
-pub fn header_words(layout: u16, workers: u16, nodes: u16) -> [u16; 8]
-    ensures { good_counts layout workers nodes ≡ true → result ≡ header_words layout workers nodes }
-{
-    let nodes_from = worker_from(workers);
-    let total = total(layout, workers, nodes);
-    [
-        layout,
-        workers,
-        nodes,
-        HEADER_WIDTH as u16,
-        (nodes_from % 65536) as u16,
-        (total % 65536) as u16,
-        0,
-        0,
-    ]
+impl Counts {
+    pub fn new(layout: u16, workers: u16, nodes: u16) -> Option<Counts>
+        ensures good { is_some result ≡ good_counts layout workers nodes }
+        ensures same { IfSome result (λ counts. (counts.layout ≡ layout) × (counts.workers ≡ workers) × (counts.nodes ≡ nodes)) }
+    {
+        if is_layout(layout) & (1..=8).contains(&workers) & (3..=1024).contains(&nodes) {
+            Some(Counts {
+                layout,
+                workers,
+                nodes,
+            })
+        } else {
+            None
+        }
+    }
+
+    // Words of the arena.
+    pub fn total(self) -> usize
+        ensures { result ≡ total self.layout self.workers self.nodes }
+    {
+        total(self.layout, self.workers, self.nodes)
+    }
+
+    // The header of an arena.
+    #[tactic(auto, unfolding(crate::specs::Layout::header_words))]
+    pub fn header(self) -> [u16; 8]
+        ensures { result ≡ header_words self.layout self.workers self.nodes }
+    {
+        let nodes_from = worker_from(self.workers);
+        [
+            self.layout,
+            self.workers,
+            self.nodes,
+            HEADER_WIDTH as u16,
+            nodes_from as u16,
+            self.total() as u16,
+            0,
+            0,
+        ]
+    }
 }

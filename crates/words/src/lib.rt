@@ -1,24 +1,17 @@
 // The words of an arena (document 01: board): read and written whatever the place, since past the end a read gives 0 and a write does
-// nothing. `layout` says where the records stand, `records` reads and writes them, and `header` tests the header.
+// nothing. `layout` says where the records stand, `records` reads and writes them, and `Arena` is what the header test lets through.
 #![tactic(auto)]
 
 ghost use Rattle.std.specs.Prelude.{◌≡◌, length, replicate, set};
 ghost use Rattle.std.proofs.lemmas.List.Edits.{sets};
 ghost use Rattle.words.specs.Layout.{word};
-ghost use Rattle.words.specs.Header.{agrees};
 
 mod header;
 pub mod layout;
 pub mod records;
 
-pub use header::header_verdict;
-
-// What a call that only may be refused answers.
-#[derive(Clone, Copy)]
-pub enum Verdict {
-    Accepted,
-    Refused(u16),
-}
+pub use header::Arena;
+pub use records::Nodes;
 
 pub fn word(words: &[u16], at: usize) -> u16
     ensures { result ≡ word words.now at }
@@ -35,40 +28,23 @@ pub fn put(words: &mut [u16], at: usize, value: u16)
 }
 
 // The values from a place on.
+#[tactic(auto, using(crate::proofs::Runs::sets_out))]
 pub fn write(words: &mut [u16], at: usize, values: &[u16])
     ensures { words.new ≡ sets words.old at values.now }
 {
     if words.len() <= at {
         return;
     }
-    let mut i = 0;
-    while i < values.len() {
-        put(words, at + i, values[i]);
-        i += 1;
+    for (i, value) in values.iter().enumerate() {
+        put(words, at + i, *value);
     }
 }
 
-// Zeros in every word.
+// Zeros in every word. By place, as `fill` is not compiled to one call that clears memory: init took a quarter longer with it.
 pub fn clear(words: &mut [u16])
     ensures { words.new ≡ replicate (length words.old) 0 }
 {
-    let mut i = 0;
-    while i < words.len() {
+    for i in 0..words.len() {
         words[i] = 0;
-        i += 1;
     }
-}
-
-// Whether the first words are these.
-pub(crate) fn agree(words: &[u16], values: &[u16]) -> bool
-    ensures { result ≡ agrees words.now 0 values.now }
-{
-    let mut i = 0;
-    while i < values.len() {
-        if word(words, i) != values[i] {
-            return false;
-        }
-        i += 1;
-    }
-    true
 }

@@ -1,12 +1,13 @@
 // Worker and node records, read from and written to words.
 ghost use Rattle.std.specs.Prelude.{◌+◌, ◌≡◌, set};
 ghost use Rattle.worker.specs.Node.{without_length};
-ghost use Rattle.words.specs.Records.{worker_words, worker_at, with_worker, with_node, node_at};
+ghost use Rattle.words.specs.Records.{Spans, worker_words, worker_at, with_worker, with_node, node_at};
 ghost use Rattle.words.specs.Layout.{word, worker_from, slot, node_from};
 
 use crate::{layout, put, word, write};
 use worker::{Node, Worker};
 
+// An array of the fields is what it is, and behind `From` it would be no plainer.
 pub fn worker_words(worker: Worker) -> [u16; 8]
     ensures { result ≡ worker_words worker }
 {
@@ -81,24 +82,25 @@ pub fn write_node(arena: &mut [u16], number: u16, node: Node)
     write(arena, at, &values[..width]);
 }
 
-// A field of a node, of the arena's part that holds the node records.
+// A field of a node, in any words of records of a width.
 pub fn node_field(nodes: &[u16], width: u16, node: u16, field: u16) -> u16
     ensures { result ≡ word nodes.now (slot width node field) }
 {
     word(nodes, layout::slot(width, node, field))
 }
 
-// A node but for its length. One test serves a node that lies inside whole.
+// A node but for its length, in any words. One test serves a node that lies inside whole.
 #[tactic(auto, unfolding(crate::specs::Records::node_at))]
 pub fn read_node(nodes: &[u16], width: u16, node: u16) -> Node
     ensures { result ≡ without_length (node_at width nodes.now node) }
 {
-    if layout::slot(width, node, layout::NODE_OWNER) < nodes.len() {
+    let at = layout::slot(width, node, layout::NODE_KEY);
+    if at + 3 < nodes.len() {
         return Node {
-            key: nodes[layout::slot(width, node, layout::NODE_KEY)],
-            next: nodes[layout::slot(width, node, layout::NODE_NEXT)],
-            mark: nodes[layout::slot(width, node, layout::NODE_MARK)],
-            owner: nodes[layout::slot(width, node, layout::NODE_OWNER)],
+            key: nodes[at],
+            next: nodes[at + 1],
+            mark: nodes[at + 2],
+            owner: nodes[at + 3],
             length: 0,
         };
     }
@@ -108,5 +110,23 @@ pub fn read_node(nodes: &[u16], width: u16, node: u16) -> Node
         mark: node_field(nodes, width, node, layout::NODE_MARK),
         owner: node_field(nodes, width, node, layout::NODE_OWNER),
         length: 0,
+    }
+}
+
+// The node records of an arena, the part from the node offset to the total; the words of each; and how many there are.
+#[derive(Clone, Copy)]
+pub struct Nodes<'a> {
+    pub words: &'a [u16],
+    pub width: u16,
+    pub count: u16,
+    ghost spans: { Spans width count words.now },
+}
+
+impl<'a> Nodes<'a> {
+    // A node but for its length.
+    pub fn get(self, node: u16) -> Node
+        ensures { result ≡ without_length (node_at self.entry.width self.entry.words.now node) }
+    {
+        read_node(self.words, self.width, node)
     }
 }

@@ -12,14 +12,13 @@ use Rattle.worker.specs.Worker.{add}
 use Rattle.worker.specs.Stages.{with_stage, reports, goes, to, denies, takes, stage_table, step_of}
 use Rattle.worker.specs.Turn.{placed, busy_refusals, turn_refusals, turn_of}
 use Rattle.worker.specs.declared.Worker.{Worker}
-use Rattle.worker.specs.declared.report.Free.{Free}
-use Rattle.worker.specs.declared.report.Free.TheVariants as free
+use Rattle.std.specs.Prelude.{Option, Some, None}
 use Rattle.worker.specs.declared.report.Seen.{Seen}
 use Rattle.worker.specs.declared.report.Report.TheVariants.{Idle, Waits}
 use Rattle.worker.specs.declared.report.Step.{Step}
 use Rattle.worker.specs.declared.report.Effect.{Effect}
 use Rattle.worker.specs.declared.report.Effect.TheVariants.{Nothing, SetOwner, SetNext, SetMark, Fill}
-use Rattle.worker.specs.declared.report.Turned.TheVariants.{Done}
+use Rattle.std.specs.Prelude.{Ok}
 use Rattle.worker.proofs.Tables.{AllFrom, end, ◌then◌, row_at}
 use Rattle.worker.proofs.RefusalLaws.{NoneHolds}
 use Rattle.worker.proofs.TurnLaws.{judged_done, done_step, step_row}
@@ -33,18 +32,18 @@ EffectBelow count (SetMark node) = node < count
 EffectBelow count (Fill node key next length) = node < count
 
 -- and so is a free node that was found
-abbrev pub FreeBelow : ℕ → Free → Type 0
-FreeBelow count free.None = Unit {0}
-FreeBelow count (free.Node node) = node < count
+abbrev pub FreeBelow : ℕ → Option ℕ → Type 0
+FreeBelow count None = Unit {0}
+FreeBelow count (Some node) = node < count
 
 module _ (w : Worker) (owner : ℕ) (seen : Seen) where
   -- a row's effect is on a node below N, where the numbers that its stage reads are
   abbrev Below : ℕ → Step → Type 0
   Below stage step = placed (with_stage w stage) seen.count ≡ true → EffectBelow seen.count step.effect
 
-  takes_below : (found : Free) → FreeBelow seen.count found → EffectBelow seen.count (takes w found).effect
-  takes_below free.None below = tt
-  takes_below (free.Node node) below = below
+  takes_below : (found : Option ℕ) → FreeBelow seen.count found → EffectBelow seen.count (takes w found).effect
+  takes_below None below = tt
+  takes_below (Some node) below = below
 
   -- a stage that reads pred, and one that reads curr and not pred
   pred_below : (a b : Bool) → (ltb w.pred seen.count && a) && b ≡ true → w.pred < seen.count
@@ -107,7 +106,7 @@ module _ (w : Worker) (owner : ℕ) (seen : Seen) where
   step_below stage e found = row_at Below stage (stage_table w owner seen) (reports w Idle) (rows_below found) (λ m out passed. tt) e
 
   -- the effect of a turn that is done is on a node below N
-  pub done_below : {step : Step} → turn_of w owner seen ≡ Done step → FreeBelow seen.count seen.free →
+  pub done_below : {step : Step} → turn_of w owner seen ≡ Ok step → FreeBelow seen.count seen.free →
       EffectBelow seen.count step.effect
   unfolding turn_of turn_refusals busy_refusals step_of
   done_below {step} e found =
@@ -116,7 +115,7 @@ module _ (w : Worker) (owner : ℕ) (seen : Seen) where
       elim (ℕ_discrete w.stage 0) [
         | yes q ↦ subst Has (sym (same ∙ step_row w owner seen q)) tt
         | no q ↦
-            let passed = (judged_done (turn_refusals w seen) (Done (step_of w owner seen)) e).0 in
+            let passed = (judged_done (turn_refusals w seen) (Ok (step_of w owner seen)) e).0 in
             let none = subst (λ (t : Bool). NoneHolds (cond t [] (busy_refusals w seen))) (ne_eqb w.stage 0 q) passed in
             subst Has (sym same) (step_below w.stage (not-false _ none.1.1.1.0) found)
       ]

@@ -3,7 +3,6 @@ pub mod Laws
 pub mod RefusalLaws
 pub mod ReportLaws
 pub mod Tables
-pub mod ReadLaws
 pub mod TurnLaws
 pub mod EffectLaws
 pub mod StillLaws

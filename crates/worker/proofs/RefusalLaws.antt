@@ -1,13 +1,13 @@
 -- Laws of the judgement by a list of refusals.
-use Prim.Native.Nat.{ℕ}
 use mathlib.Core.Path.{◌≡◌, refl, ap}
 use mathlib.Core.List.{List, [], ◌∷◌, ◌++◌}
 use mathlib.Core.Bool.{Bool, true, false, cond}
-use Rattle.worker.specs.Refusals.{Refusal, judged}
+use Rattle.worker.specs.Refusals.{Test, judged}
+use Rattle.worker.specs.declared.refusal.Refusal.{Refusal}
 
 -- what every outcome has, the judgement has
-pub judged_keeps : {A : Type 0} (P : A → Type 0) (rs : List Refusal) (refuse : ℕ → A) (accept : A) →
-    ((number : ℕ) → P (refuse number)) → P accept → P (judged rs refuse accept)
+pub judged_keeps : {A : Type 0} (P : A → Type 0) (rs : List Test) (refuse : Refusal → A) (accept : A) →
+    ((refusal : Refusal) → P (refuse refusal)) → P accept → P (judged rs refuse accept)
 judged_keeps P [] refuse accept p q = q
 judged_keeps {A} P (r ∷ rs) refuse accept p q = go r.0 (judged rs refuse accept) (judged_keeps P rs refuse accept p q)
   where
@@ -16,18 +16,18 @@ judged_keeps {A} P (r ∷ rs) refuse accept p q = go r.0 (judged rs refuse accep
     go false others more = more
 
 -- a list of refusals behind another
-pub judged_append : {A : Type 0} (rs ss : List Refusal) (refuse : ℕ → A) (accept : A) →
+pub judged_append : {A : Type 0} (rs ss : List Test) (refuse : Refusal → A) (accept : A) →
     judged (rs ++ ss) refuse accept ≡ judged rs refuse (judged ss refuse accept)
 judged_append [] ss refuse accept = refl
 judged_append (r ∷ rs) ss refuse accept = ap (cond r.0 (refuse r.1)) (judged_append rs ss refuse accept)
 
 -- no test of a list holds
-abbrev pub NoneHolds : List Refusal → Type 0
+abbrev pub NoneHolds : List Test → Type 0
 NoneHolds [] = Unit {0}
 NoneHolds (r ∷ rs) = (r.0 ≡ false) × NoneHolds rs
 
 -- where a judgement is what no refusal gives, no test holds, and it is what is accepted
-pub judged_passed : {A : Type 0} (rs : List Refusal) (refuse : ℕ → A) (accept other : A) → ((number : ℕ) → refuse number ≡ other → ⊥) →
+pub judged_passed : {A : Type 0} (rs : List Test) (refuse : Refusal → A) (accept other : A) → ((refusal : Refusal) → refuse refusal ≡ other → ⊥) →
     judged rs refuse accept ≡ other → NoneHolds rs × (accept ≡ other)
 judged_passed [] refuse accept other out e = (tt, e)
 judged_passed {A} (r ∷ rs) refuse accept other out e = go r.0 (judged rs refuse accept) (judged_passed rs refuse accept other out) e
@@ -38,6 +38,6 @@ judged_passed {A} (r ∷ rs) refuse accept other out e = go r.0 (judged rs refus
     go false others more e = let passed = more e in ((refl, passed.0), passed.1)
 
 -- and the other way round
-pub none_accepts : {A : Type 0} (rs : List Refusal) (refuse : ℕ → A) (accept : A) → NoneHolds rs → judged rs refuse accept ≡ accept
+pub none_accepts : {A : Type 0} (rs : List Test) (refuse : Refusal → A) (accept : A) → NoneHolds rs → judged rs refuse accept ≡ accept
 none_accepts [] refuse accept none = refl
 none_accepts (r ∷ rs) refuse accept none = rw none.0 (none_accepts rs refuse accept none.1)

@@ -7,8 +7,7 @@ use Rattle.worker.specs.Worker.{add}
 use Rattle.worker.specs.Report.{is_still}
 use Rattle.worker.specs.Stages.{reports, takes, stage_table, step_of}
 use Rattle.worker.specs.declared.Worker.{Worker}
-use Rattle.worker.specs.declared.report.Free.{Free}
-use Rattle.worker.specs.declared.report.Free.TheVariants as free
+use Rattle.std.specs.Prelude.{Option, Some, None}
 use Rattle.worker.specs.declared.report.Seen.{Seen}
 use Rattle.worker.specs.declared.report.Report.TheVariants.{Idle}
 use Rattle.worker.specs.declared.report.Step.{Step}
@@ -23,9 +22,9 @@ module _ (w : Worker) (owner : ℕ) (seen : Seen) where
   moves : {Claim : Type 0} → false ≡ true → Claim
   moves e = absurd (true≢false (sym e))
 
-  takes_still : (found : Free) → Still (takes w found)
-  takes_still free.None = moves
-  takes_still (free.Node node) = moves
+  takes_still : (found : Option ℕ) → Still (takes w found)
+  takes_still None = moves
+  takes_still (Some node) = moves
 
   -- a step that is chosen by a test
   either : (test : Bool) {this other : Step} → Still this → Still other → Still (cond test this other)

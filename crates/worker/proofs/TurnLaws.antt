@@ -4,27 +4,27 @@ use mathlib.Core.Path.{◌≡◌, ap}
 use mathlib.Core.List.{List}
 use native.Mathlib.Omega.{arith}
 use lib.ListN.{get_or}
-use Rattle.worker.specs.Refusals.{Refusal, judged}
+use Rattle.std.specs.Prelude.{Result, Ok, Err}
+use Rattle.worker.specs.Refusals.{Test, judged}
+use Rattle.worker.specs.declared.refusal.Refusal.{Refusal}
 use Rattle.worker.specs.Stages.{reports, stage_table, step_of}
 use Rattle.worker.specs.Turn.{turn_refusals, turn_of}
 use Rattle.worker.specs.declared.Worker.{Worker}
 use Rattle.worker.specs.declared.report.Seen.{Seen}
 use Rattle.worker.specs.declared.report.Report.TheVariants.{Idle}
 use Rattle.worker.specs.declared.report.Step.{Step}
-use Rattle.worker.specs.declared.report.Turned.{Turned}
-use Rattle.worker.specs.declared.report.Turned.TheVariants.{Refused, Done}
 use Rattle.worker.proofs.RefusalLaws.{NoneHolds, judged_passed}
 
 -- a judgement that is done passed every test
-pub judged_done : (rs : List Refusal) (accept : Turned) {step : Step} → judged rs Refused accept ≡ Done step →
-    NoneHolds rs × (accept ≡ Done step)
+pub judged_done : (rs : List Test) (accept : Result Step Refusal) {step : Step} → judged rs Err accept ≡ Ok step →
+    NoneHolds rs × (accept ≡ Ok step)
 judged_done rs accept {step} =
-    judged_passed rs Refused accept (Done step) (λ number same. let z : ◌≡◌ {A = ℕ} 0 1 = cc in omega arith)
+    judged_passed rs Err accept (Ok step) (λ refusal same. let z : ◌≡◌ {A = ℕ} 0 1 = cc in omega arith)
 
-pub done_step : (w : Worker) (owner : ℕ) (seen : Seen) {step : Step} → turn_of w owner seen ≡ Done step → step ≡ step_of w owner seen
+pub done_step : (w : Worker) (owner : ℕ) (seen : Seen) {step : Step} → turn_of w owner seen ≡ Ok step → step ≡ step_of w owner seen
 unfolding turn_of
 done_step w owner seen {step} e =
-    let done : Done (step_of w owner seen) ≡ Done step = (judged_done (turn_refusals w seen) (Done (step_of w owner seen)) e).1 in
+    let done : Ok (step_of w owner seen) ≡ Ok step = (judged_done (turn_refusals w seen) (Ok (step_of w owner seen)) e).1 in
     cc
 
 pub step_row : (w : Worker) (owner : ℕ) (seen : Seen) {stage : ℕ} → w.stage ≡ stage →

@@ -1,52 +1,37 @@
--- Refusals in document 01's numbers, and the first of them in the given order.
-use Rattle.std.specs.Prelude.{ℕ, List, [], ◌∷◌, Bool, cond}
+-- Refusals in document 01's numbers and words, and the first of them in the given order.
+use Rattle.std.specs.Prelude.{ℕ, List, [], ◌∷◌, Bool, cond, codes}
+use Rattle.worker.specs.declared.refusal.Refusal.{Refusal}
+use Rattle.worker.specs.declared.refusal.Refusal.TheVariants.{ShortArena, OddHeader, NoSuchWorker, Busy, BadCall, BrokenRecord, BrokenChain, NoRoom, BadSchedule, BadCounts}
 
--- the refusals, with document 01's words
--- "short board"
-abbrev pub short_arena : ℕ
-short_arena = 1
+abbrev pub refusal_number : Refusal → ℕ
+refusal_number ShortArena = 1
+refusal_number OddHeader = 2
+refusal_number NoSuchWorker = 3
+refusal_number Busy = 4
+refusal_number BadCall = 5
+refusal_number BrokenRecord = 6
+refusal_number BrokenChain = 7
+refusal_number NoRoom = 8
+refusal_number BadSchedule = 9
+refusal_number BadCounts = 10
 
--- "odd header"
-abbrev pub odd_header : ℕ
-odd_header = 2
+abbrev pub refusal_word : Refusal → List ℕ
+refusal_word ShortArena = codes "short board"
+refusal_word OddHeader = codes "odd header"
+refusal_word NoSuchWorker = codes "no such worker"
+refusal_word Busy = codes "busy"
+refusal_word BadCall = codes "bad call"
+refusal_word BrokenRecord = codes "broken record"
+refusal_word BrokenChain = codes "broken chain"
+refusal_word NoRoom = codes "no room"
+refusal_word BadSchedule = codes "bad schedule"
+refusal_word BadCounts = codes "bad counts"
 
--- "no such worker"
-abbrev pub no_such_worker : ℕ
-no_such_worker = 3
-
--- "busy"
-abbrev pub busy : ℕ
-busy = 4
-
--- "bad call"
-abbrev pub bad_call : ℕ
-bad_call = 5
-
--- "broken record"
-abbrev pub broken_record : ℕ
-broken_record = 6
-
--- "broken chain"
-abbrev pub broken_chain : ℕ
-broken_chain = 7
-
--- "no room"
-abbrev pub no_room : ℕ
-no_room = 8
-
--- "bad schedule"
-abbrev pub bad_schedule : ℕ
-bad_schedule = 9
-
--- "bad counts"
-abbrev pub bad_counts : ℕ
-bad_counts = 10
-
--- a test that refuses where it holds, with its number
-abbrev pub Refusal : Type 0
-Refusal = Bool × ℕ
+-- a test, and the refusal where it holds
+abbrev pub Test : Type 0
+Test = Bool × Refusal
 
 -- the first refusal in the given order decides; where no test holds, the call is accepted
-abbrev pub judged : {A : Type 0} → List Refusal → (ℕ → A) → A → A
+abbrev pub judged : {A : Type 0} → List Test → (Refusal → A) → A → A
 judged [] refuse accept = accept
-judged (r ∷ rs) refuse accept = cond r.0 (refuse r.1) (judged rs refuse accept)
+judged (test ∷ tests) refuse accept = cond test.0 (refuse test.1) (judged tests refuse accept)

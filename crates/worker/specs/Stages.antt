@@ -1,11 +1,9 @@
 -- The stage table (document 01: Stages): what a turn does at each stage.
-use Rattle.std.specs.Prelude.{ℕ, ◌-◌, List, [], ◌∷◌, Bool, cond, get_or, ltb, eqb}
+use Rattle.std.specs.Prelude.{ℕ, ◌-◌, List, [], ◌∷◌, Bool, cond, get_or, ltb, eqb, Option, Some, None}
 use Rattle.worker.specs.Node.{head}
 use Rattle.worker.specs.Worker.{add, idle_worker}
 use Rattle.worker.specs.Report.{answer_number, numbered_answer}
 use Rattle.worker.specs.declared.Worker.{Worker}
-use Rattle.worker.specs.declared.report.Free.{Free}
-use Rattle.worker.specs.declared.report.Free.TheVariants as free
 use Rattle.worker.specs.declared.report.Seen.{Seen}
 use Rattle.worker.specs.declared.report.Step.{Step}
 use Rattle.worker.specs.declared.report.Answer.TheVariants.{Yes, No, Full}
@@ -73,9 +71,9 @@ abbrev pub decides : Worker → Bool → Step
 decides w found = cond (eqb w.operation add) (cond found (denies w 19) (to w 14)) (cond found (to w 16) (denies w 19))
 
 -- 14: no free node: answer full, to 19; else spare := that node, written as e, curr, 0, 0 and the length of the add; to 15
-abbrev pub takes : Worker → Free → Step
-takes w free.None = to (with_answer w (answer_number Full)) 19
-takes w (free.Node node) = goes (with_spare w node) 15 (Fill node w.key w.curr w.length)
+abbrev pub takes : Worker → Option ℕ → Step
+takes w None = to (with_answer w (answer_number Full)) 19
+takes w (Some node) = goes (with_spare w node) 15 (Fill node w.key w.curr w.length)
 
 -- 23: key of curr below e: to 24; equal: to 25; above: answer no, to 21
 abbrev pub compares : Worker → ℕ → Step

@@ -1,12 +1,13 @@
 -- A worker's turn (document 01: a worker's record and one turn): refusals 6 and 7, else the step of its stage.
-use Rattle.std.specs.Prelude.{ℕ, List, [], ◌∷◌, Bool, false, cond, not, ◌&&◌, ◌||◌, leb, ltb, eqb}
+use Rattle.std.specs.Prelude.{ℕ, List, [], ◌∷◌, Bool, false, cond, not, ◌&&◌, ◌||◌, leb, ltb, eqb, Result, Ok, Err}
 use Rattle.worker.specs.Worker.{within, is_key, add, remove, contains, idle_stage, last_stage}
-use Rattle.worker.specs.Refusals.{Refusal, judged, broken_record, broken_chain}
+use Rattle.worker.specs.Refusals.{Test, judged}
 use Rattle.worker.specs.Stages.{step_of}
 use Rattle.worker.specs.declared.Worker.{Worker}
 use Rattle.worker.specs.declared.report.Seen.{Seen}
-use Rattle.worker.specs.declared.report.Turned.{Turned}
-use Rattle.worker.specs.declared.report.Turned.TheVariants.{Refused, Done}
+use Rattle.worker.specs.declared.report.Step.{Step}
+use Rattle.worker.specs.declared.refusal.Refusal.{Refusal}
+use Rattle.worker.specs.declared.refusal.Refusal.TheVariants.{BrokenRecord, BrokenChain}
 
 -- the operations that belong to a stage: 1 to 13, 19, 20: 1 or 2; 14, 15: 1; 16 to 18: 2; 21: 1 to 3; 22 to 25: 3
 unfoldable pub belongs : ℕ → ℕ → Bool
@@ -47,18 +48,18 @@ astray w seen =
     || ((eqb w.stage 5 || eqb w.stage 17 || eqb w.stage 24) && leb seen.count seen.curr.next)
 
 -- broken record: the stage; the operation; the key or the answer; a node number. Then broken chain
-unfoldable pub busy_refusals : Worker → Seen → List Refusal
+unfoldable pub busy_refusals : Worker → Seen → List Test
 busy_refusals w seen =
-    (ltb last_stage w.stage, broken_record)
-    ∷ (not (belongs w.stage w.operation), broken_record)
-    ∷ (not (kept w), broken_record)
-    ∷ (not (placed w seen.count), broken_record)
-    ∷ (astray w seen, broken_chain)
+    (ltb last_stage w.stage, BrokenRecord)
+    ∷ (not (belongs w.stage w.operation), BrokenRecord)
+    ∷ (not (kept w), BrokenRecord)
+    ∷ (not (placed w seen.count), BrokenRecord)
+    ∷ (astray w seen, BrokenChain)
     ∷ []
 
 -- stage 0 is idle, whatever else stands in the record
-unfoldable pub turn_refusals : Worker → Seen → List Refusal
+unfoldable pub turn_refusals : Worker → Seen → List Test
 turn_refusals w seen = cond (eqb w.stage idle_stage) [] (busy_refusals w seen)
 
-unfoldable pub turn_of : Worker → ℕ → Seen → Turned
-turn_of w owner seen = judged (turn_refusals w seen) Refused (Done (step_of w owner seen))
+unfoldable pub turn_of : Worker → ℕ → Seen → Result Step Refusal
+turn_of w owner seen = judged (turn_refusals w seen) Err (Ok (step_of w owner seen))

@@ -5,15 +5,16 @@ ghost use Rattle.std.specs.Prelude.{◌≡◌};
 ghost use Rattle.worker.specs.Node.{new_node, head_node, tail_node, unused_node};
 ghost use Rattle.worker.specs.Worker.{within, is_key, is_length, carries, is_call, new_worker, idle_worker, first_stage, started_worker};
 
-pub mod refusal;
+mod refusal;
 mod report;
 mod stages;
 mod turn;
 
-pub use report::{Answer, Effect, Free, Report, Seen, Step, Turned};
+pub use refusal::Refusal;
+pub use report::{Answer, Effect, Report, Seen, Step};
 
 // Document 01's node record, and document 02's length.
-#[derive(Clone, Copy)]
+#[derive(Clone, Copy, Debug, PartialEq, Eq)]
 pub struct Node {
     pub key: u16,
     pub next: u16,
@@ -71,7 +72,7 @@ impl Node {
 }
 
 // Document 01's worker record, and document 02's length.
-#[derive(Clone, Copy)]
+#[derive(Clone, Copy, Debug, PartialEq, Eq)]
 pub struct Worker {
     pub stage: u16,
     pub operation: u16,
@@ -85,14 +86,15 @@ pub struct Worker {
 }
 
 impl Worker {
-    // Operations of a call.
+    // Operations of a call. Numbers and no enum: a record's word may hold any, and a stage takes a range of them (document 01's form).
     pub const ADD: u16 = 1;
 
     pub const REMOVE: u16 = 2;
 
     pub const CONTAINS: u16 = 3;
 
-    // Stages: idle, the first of add and remove, the one that takes a free node, the first of contains, the last of all.
+    // Stages, by document 01's form numbers too: idle, the first of add and remove, the one that takes a free node, the first of contains, the
+    // last of all.
     pub const IDLE_STAGE: u16 = 0;
 
     pub const SEARCH_STAGE: u16 = 1;
@@ -177,5 +179,5 @@ pub(crate) fn is_key(key: u16) -> bool
 pub(crate) fn is_within(n: u16, low: u16, high: u16) -> bool
     ensures { result ≡ within low high n }
 {
-    (low <= n) & (n <= high)
+    (low..=high).contains(&n)
 }

@@ -1,30 +1,49 @@
-// Document 01's refusals: the number, and its word.
-// short board
-pub const SHORT_ARENA: u16 = 1;
+// Document 01's refusals: a number and a word each.
+ghost use Rattle.std.specs.Prelude.{◌≡◌, Some};
+ghost use Rattle.worker.specs.Refusals.{refusal_number, refusal_word};
 
-// odd header
-pub const ODD_HEADER: u16 = 2;
+use std::error::Error;
+use std::fmt;
 
-// no such worker
-pub const NO_SUCH_WORKER: u16 = 3;
+#[derive(Clone, Copy, Debug, PartialEq, Eq, Hash, Drop)]
+pub enum Refusal {
+    ShortArena = 1,
+    OddHeader = 2,
+    NoSuchWorker = 3,
+    Busy = 4,
+    BadCall = 5,
+    BrokenRecord = 6,
+    BrokenChain = 7,
+    NoRoom = 8,
+    BadSchedule = 9,
+    BadCounts = 10,
+}
 
-// busy
-pub const BUSY: u16 = 4;
+impl From<Refusal> for u16 {
+    ghost from_gives = { λ refusal number. number ≡ refusal_number refusal };
 
-// bad call
-pub const BAD_CALL: u16 = 5;
+    fn from(refusal: Refusal) -> u16 {
+        refusal as u16
+    }
+}
 
-// broken record
-pub const BROKEN_RECORD: u16 = 6;
+impl fmt::Display for Refusal {
+    ghost output = { λ refusal. Some (refusal_word refusal) };
 
-// broken chain
-pub const BROKEN_CHAIN: u16 = 7;
+    fn fmt<W: fmt::Write>(&self, f: &mut fmt::Formatter<W>) -> fmt::Result {
+        f.write_str(match self {
+            Refusal::ShortArena => "short board",
+            Refusal::OddHeader => "odd header",
+            Refusal::NoSuchWorker => "no such worker",
+            Refusal::Busy => "busy",
+            Refusal::BadCall => "bad call",
+            Refusal::BrokenRecord => "broken record",
+            Refusal::BrokenChain => "broken chain",
+            Refusal::NoRoom => "no room",
+            Refusal::BadSchedule => "bad schedule",
+            Refusal::BadCounts => "bad counts",
+        })
+    }
+}
 
-// no room
-pub const NO_ROOM: u16 = 8;
-
-// bad schedule
-pub const BAD_SCHEDULE: u16 = 9;
-
-// bad counts
-pub const BAD_COUNTS: u16 = 10;
+impl Error for Refusal {}

@@ -1,36 +1,29 @@
 // What a turn sees of the nodes, what it reports, and what it does to them.
 ghost use Rattle.std.specs.Prelude.{◌≡◌};
-ghost use Rattle.worker.specs.Report.{numbered_answer};
+ghost use Rattle.worker.specs.Report.{answer_number, numbered_answer};
 
 use crate::{Node, Worker};
 
-// What a search for a free node finds: its number, or that there is none.
-#[derive(Clone, Copy)]
-pub enum Free {
-    Node(u16),
-    None,
-}
-
 // What a turn sees besides the worker's own record: how many nodes there are, the nodes that pred and curr name, and, at the stage
 // that takes one, a free node.
-#[derive(Clone, Copy)]
+#[derive(Clone, Copy, Debug, PartialEq, Eq)]
 pub struct Seen {
     pub count: u16,
     pub pred: Node,
     pub curr: Node,
-    pub free: Free,
+    pub free: Option<u16>,
 }
 
 // What a call answers.
-#[derive(Clone, Copy)]
+#[derive(Clone, Copy, Debug, PartialEq, Eq)]
 pub enum Answer {
-    Yes,
-    No,
-    Full,
+    Yes = 1,
+    No = 2,
+    Full = 3,
 }
 
 // What a turn reports: the stage it moved to; the node it waits for and the worker that owns it; the answer it finished with.
-#[derive(Clone, Copy)]
+#[derive(Clone, Copy, Debug, PartialEq, Eq)]
 pub enum Report {
     Idle,
     Moved(u16),
@@ -39,7 +32,7 @@ pub enum Report {
 }
 
 // The one thing that a turn does to the nodes.
-#[derive(Clone, Copy)]
+#[derive(Clone, Copy, Debug, PartialEq, Eq)]
 pub enum Effect {
     Nothing,
     // of a node: its owner
@@ -53,35 +46,30 @@ pub enum Effect {
 }
 
 // An accepted turn.
-#[derive(Clone, Copy)]
+#[derive(Clone, Copy, Debug, PartialEq, Eq)]
 pub struct Step {
     pub worker: Worker,
     pub report: Report,
     pub effect: Effect,
 }
 
-// A turn: done, or refused with a number.
-#[derive(Clone, Copy)]
-pub enum Turned {
-    Done(Step),
-    Refused(u16),
+// An answer in a worker's record.
+impl From<Answer> for u16 {
+    ghost from_gives = { λ answer number. number ≡ answer_number answer };
+
+    fn from(answer: Answer) -> u16 {
+        answer as u16
+    }
 }
 
-impl Answer {
-    // Answers in a worker's record.
-    pub const YES: u16 = 1;
+// The answer that a record keeps.
+impl From<u16> for Answer {
+    ghost from_gives = { λ number answer. answer ≡ numbered_answer number };
 
-    pub const NO: u16 = 2;
-
-    pub const FULL: u16 = 3;
-
-    // The answer that a record keeps.
-    pub fn numbered(number: u16) -> Self
-        ensures { result ≡ numbered_answer number }
-    {
+    fn from(number: u16) -> Answer {
         match number {
-            Self::YES => Answer::Yes,
-            Self::NO => Answer::No,
+            1 => Answer::Yes,
+            2 => Answer::No,
             _ => Answer::Full,
         }
     }

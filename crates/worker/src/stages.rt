@@ -1,8 +1,10 @@
-// The stages: what a turn does, line by line as document 01's table. The call's key is `self.key`, document 01's e.
+// The stages: what a turn does, line by line as document 01's table. The call's key is `self.key`, document 01's e. A
+// match on the stage number is its form.
 ghost use Rattle.std.specs.Prelude.{◌≡◌, cond};
-ghost use Rattle.worker.specs.Stages.{changed, with_stage, with_pred, with_curr, with_spare, with_answer, reports, goes, to, locks, unlocks, denies, decides, takes, compares, step_of};
+ghost use Rattle.worker.specs.Report.{answer_number};
+ghost use Rattle.worker.specs.Stages.{with_stage, with_pred, with_curr, with_spare, with_answer, reports, goes, to, locks, unlocks, denies, decides, takes, compares, step_of};
 
-use crate::report::{Answer, Effect, Free, Report, Seen, Step};
+use crate::report::{Answer, Effect, Report, Seen, Step};
 use crate::{Node, Worker};
 
 impl Worker {
@@ -30,69 +32,60 @@ impl Worker {
             13 => self.decides(seen.curr.key == self.key),
             14 => self.takes(free),
             15 => self
-                .with_answer(Answer::YES)
+                .with_answer(Answer::Yes)
                 .goes(19, Effect::SetNext(self.pred, self.spare)),
             16 => self
-                .with_answer(Answer::YES)
+                .with_answer(Answer::Yes)
                 .goes(17, Effect::SetMark(self.curr)),
             17 => self.with_spare(seen.curr.next).to(18),
             18 => self.goes(19, Effect::SetNext(self.pred, self.spare)),
             19 => self.unlocks(self.pred, 20),
             20 => self.unlocks(self.curr, 21),
-            21 => Worker::idle().reports(Report::Finished(Answer::numbered(self.answer))),
+            21 => Worker::idle().reports(Report::Finished(Answer::from(self.answer))),
             22 => self.with_curr(Node::HEAD).to(23),
             23 => self.compares(seen.curr.key),
             24 => self.with_curr(seen.curr.next).to(23),
             25 => self
-                .with_answer(either(seen.curr.mark == 0, Answer::YES, Answer::NO))
+                .with_answer(either(seen.curr.mark == 0, Answer::Yes, Answer::No))
                 .to(21),
             _ => self.reports(Report::Idle),
-        }
-    }
-
-    fn changed(self, stage: u16, pred: u16, curr: u16, spare: u16, answer: u16) -> Worker
-        ensures { result ≡ changed self stage pred curr spare answer }
-    {
-        Worker {
-            stage,
-            operation: self.operation,
-            key: self.key,
-            pred,
-            curr,
-            spare,
-            answer,
-            length: self.length,
         }
     }
 
     fn with_stage(self, stage: u16) -> Worker
         ensures { result ≡ with_stage self stage }
     {
-        self.changed(stage, self.pred, self.curr, self.spare, self.answer)
+        Worker { stage, ..self }
     }
 
     fn with_pred(self, node: u16) -> Worker
         ensures { result ≡ with_pred self node }
     {
-        self.changed(self.stage, node, self.curr, self.spare, self.answer)
+        Worker { pred: node, ..self }
     }
 
     fn with_curr(self, node: u16) -> Worker
         ensures { result ≡ with_curr self node }
     {
-        self.changed(self.stage, self.pred, node, self.spare, self.answer)
+        Worker { curr: node, ..self }
     }
 
     fn with_spare(self, node: u16) -> Worker
         ensures { result ≡ with_spare self node }
     {
-        self.changed(self.stage, self.pred, self.curr, node, self.answer)
+        Worker {
+            spare: node,
+            ..self
+        }
     }
 
-    fn with_answer(self, answer: u16) -> Worker
-        ensures { result ≡ with_answer self answer }
+    fn with_answer(self, answer: Answer) -> Worker
+        ensures { result ≡ with_answer self (answer_number answer) }
     {
-        self.changed(self.stage, self.pred, self.curr, self.spare, answer)
+        Worker {
+            answer: answer.into(),
+            ..self
+        }
     }
 
     pub(crate) fn reports(self, report: Report) -> Step
@@ -142,7 +135,7 @@ impl Worker {
     fn denies(self, stage: u16) -> Step
         ensures { result ≡ denies self stage }
     {
-        self.with_answer(Answer::NO).to(stage)
+        self.with_answer(Answer::No).to(stage)
     }
 
     // Stage 13: whether the key was found decides an add and a remove.
@@ -157,12 +150,12 @@ impl Worker {
     }
 
     // Stage 14: an add takes a free node, or there is none.
-    fn takes(self, free: Free) -> Step
+    fn takes(self, free: Option<u16>) -> Step
         ensures { result ≡ takes self free }
     {
         match free {
-            Free::None => self.with_answer(Answer::FULL).to(19),
-            Free::Node(node) => {
+            None => self.with_answer(Answer::Full).to(19),
+            Some(node) => {
                 self.with_spare(node)
                     .goes(15, Effect::Fill(node, self.key, self.curr, self.length))
             }
@@ -184,7 +177,7 @@ impl Worker {
     }
 }
 
-fn either(test: bool, yes: u16, no: u16) -> u16
+fn either<T: Drop>(test: bool, yes: T, no: T) -> T
     ensures { result ≡ cond test yes no }
 {
     if test { yes } else { no }

@@ -1,44 +1,44 @@
-// A worker's turn: the refusals of its record and of the chain, else the step of its stage.
+// A worker's turn: the refusals of its record and of the chain, else the step of its stage. A match on the stage number is document 01's form.
 ghost use Rattle.std.specs.Prelude.{◌≡◌, ◌≤◌};
 ghost use Rattle.worker.specs.Turn.{belongs, kept, placed, astray, turn_of};
 
-use crate::report::{Report, Seen, Turned};
-use crate::{Worker, is_key, is_within, refusal};
+use crate::report::{Report, Seen, Step};
+use crate::{Refusal, Worker, is_key, is_within};
 
 impl Worker {
     // One turn: the next worker, the report, and the one effect on the nodes. `owner` is the worker's owner word. An idle turn is
     // reported here, so that `step` has one caller and is compiled into it.
     #[tactic(auto, unfolding(crate::specs::Turn::turn_of, crate::specs::Turn::turn_refusals, crate::specs::Turn::busy_refusals, crate::specs::Stages::step_of))]
-    pub fn turn(self, owner: u16, seen: Seen) -> Turned
+    pub fn turn(self, owner: u16, seen: Seen) -> Result<Step, Refusal>
         ensures { result ≡ turn_of self owner seen }
     {
         let stage = self.stage;
         match stage {
-            0 => Turned::Done(self.reports(Report::Idle)),
+            0 => Ok(self.reports(Report::Idle)),
             1..=25 => self.busy_turn(owner, seen),
-            26..=65535 => Turned::Refused(refusal::BROKEN_RECORD),
+            26..=65535 => Err(Refusal::BrokenRecord),
         }
     }
 
     #[tactic(auto, unfolding(crate::specs::Turn::turn_of, crate::specs::Turn::turn_refusals, crate::specs::Turn::busy_refusals))]
-    fn busy_turn(self, owner: u16, seen: Seen) -> Turned
-        requires le_stage { 1 ≤ self.stage }
-        requires stage_bound { self.stage ≤ 25 }
+    fn busy_turn(self, owner: u16, seen: Seen) -> Result<Step, Refusal>
+        requires stage_from_1 { 1 ≤ self.stage }
+        requires stage_to_25 { self.stage ≤ 25 }
         ensures { result ≡ turn_of self owner seen }
     {
         if !operation_belongs(self.stage, self.operation) {
-            return Turned::Refused(refusal::BROKEN_RECORD);
+            return Err(Refusal::BrokenRecord);
         }
         if !self.is_kept() {
-            return Turned::Refused(refusal::BROKEN_RECORD);
+            return Err(Refusal::BrokenRecord);
         }
         if !self.is_placed(seen.count) {
-            return Turned::Refused(refusal::BROKEN_RECORD);
+            return Err(Refusal::BrokenRecord);
         }
         if self.is_astray(seen) {
-            return Turned::Refused(refusal::BROKEN_CHAIN);
+            return Err(Refusal::BrokenChain);
         }
-        Turned::Done(self.step(owner, seen))
+        Ok(self.step(owner, seen))
     }
 
     // The key and, where the stage keeps one, the answer.
@@ -52,8 +52,8 @@ impl Worker {
     // The node numbers that the stage reads; all stages that are not named read curr alone.
     #[tactic(auto, unfolding(crate::specs::Turn::placed))]
     fn is_placed(self, nodes: u16) -> bool
-        requires le_stage { 1 ≤ self.stage }
-        requires stage_bound { self.stage ≤ 25 }
+        requires stage_from_1 { 1 ≤ self.stage }
+        requires stage_to_25 { self.stage ≤ 25 }
         ensures { result ≡ placed self nodes }
     {
         let stage = self.stage;

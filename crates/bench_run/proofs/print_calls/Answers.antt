@@ -1,28 +1,16 @@
-use mathlib.Core.Path.{◌≡◌}
-use native.Mathlib.Omega.{arith}
-use lib.ListN.{length, take}
-use borrow.Author.Rules.{rules}
+-- One call more, with its waits.
 use Rattle.history.specs.Rows.{no_call}
-use Rattle.bench_print.proofs.PrintLaws.{printed_none, printed_then}
-use Rattle.bench_run.proofs.CallLaws.{calls_none, calls_more}
+use Rattle.bench_print.proofs.PrintLaws.{prints_none, prints_then}
+use Rattle.bench_run.specs.Output.{calls_text}
+use Rattle.bench_run.proofs.CallLaws.{calls_more}
 use Rattle.bench_run.proofs.print_calls.Goals as goal
 
-pub loop-i-init : goal.loop-i-init
-loop-i-init c = (omega arith, rw calls_none (printed_none _ _))
+pub loop-number-init : goal.loop-number-init
+unfolding calls_text
+loop-number-init c = prints_none _
 
-pub loop-i-preserved : goal.loop-i-preserved
-loop-i-preserved c =
-    let loop = c.loop-i in
-    let args = c.args in
-    let thousand : length args.row ≡ 1000 = search rules in
-    let lines = printed_then c.print_call-next.ensures c.print_waits-next.ensures in (
-      omega arith,
-      rw (calls_more (take args.waited args.waits) args.row loop.i no_call (omega (arith, c.requires.count_bound)))
-          (printed_then loop.invariant.1 lines),
-    )
-
-pub returns : goal.returns
-returns c =
-    let loop = c.loop-i in
-    let end : c.args.count ≡ loop.i = omega arith in
-    rw end loop.invariant.1
+pub loop-number-preserved : goal.loop-number-preserved
+loop-number-preserved c =
+    let loop = c.loop-number in
+    rw (calls_more c.args.waits.now c.args.calls.now loop.number no_call c.loop-number-test.true)
+    (prints_then loop.invariant (prints_then c.print_call.ensures c.print_waits.ensures))

@@ -2,58 +2,58 @@
 use Prim.Native.Nat.{ℕ, ◌-◌}
 use mathlib.Core.Path.{◌≡◌, sym, ap, ◌∙◌}
 use native.Mathlib.Omega.{arith}
-use lib.ListN.{length, replicate, length-replicate}
+use lib.ListN.{length-replicate}
 use Rattle.words.specs.Layout.{layout2, total}
-use Rattle.schedule.specs.Run.{summary_reply}
-use Rattle.bench_print.proofs.PrintLaws.{printed_then}
-use Rattle.bench_run.specs.Output.{arena_words}
+use Rattle.words.specs.Replies.{reply}
+use Rattle.schedule.specs.Run.{totals_values}
+use Rattle.bench_print.proofs.PrintLaws.{prints_then}
 use Rattle.bench_run.proofs.OutputLaws.{passed, refused_text_lem, few_calls, few_waits, arena_are, roll_room, whole_text}
 use Rattle.bench_run.proofs.print_schedule.Goals as goal
 
-pub returns-in-Refused : goal.returns-in-Refused
-returns-in-Refused c =
+pub returns-in-Err : goal.returns-in-Err
+returns-in-Err c =
     let args = c.args in
-    let told = sym (ap summary_reply c.in-Refused.is) ∙ c.run_thousand-ran.ensures.answer in
-    rw (← refused_text_lem args.workers args.nodes args.schedule.now told) c.print_refused.ensures
+    let told = sym (ap (reply totals_values) c.in-Err.is) ∙ c.run_thousand-ran.ensures.answer in
+    rw (← refused_text_lem args.workers args.nodes args.schedule.now _ told) (rw c.from.ensures at c.print_refused.ensures)
 
-pub print_calls-roll_at-requires : goal.print_calls-roll_at-requires
-print_calls-roll_at-requires c =
+-- the rows have room for the calls and the waits, and the arena's own words are inside
+pub slice_bounds-calls-end : goal.slice_bounds-calls-end
+slice_bounds-calls-end c =
     let args = c.args in
-    let done = sym (ap summary_reply c.in-Done.is) ∙ c.run_thousand-ran.ensures.answer in
-    let totals = c.in-Done.totals in
-    record {
-      count_bound = few_calls args.workers args.nodes args.schedule.now totals done;
-      waited_bound = few_waits args.workers args.nodes args.schedule.now totals done;
-    }
+    let done = sym (ap (reply totals_values) c.in-Ok.is) ∙ c.run_thousand-ran.ensures.answer in
+    omega (arith, few_calls args.workers args.nodes args.schedule.now c.in-Ok.totals done)
 
--- the arena's own words are inside
-pub slice_bounds-print_keys-end : goal.slice_bounds-print_keys-end
-slice_bounds-print_keys-end c =
+pub slice_bounds-waits-end : goal.slice_bounds-waits-end
+slice_bounds-waits-end c =
     let args = c.args in
-    let done = sym (ap summary_reply c.in-Done.is) ∙ c.run_thousand-ran.ensures.answer in
-    let room = (passed args.workers args.nodes args.schedule.now c.in-Done.totals done).fits in
-    let lent : length {A = ℕ} (replicate arena_words 0) ≡ arena_words = length-replicate {A = ℕ} arena_words 0 in
-    omega (arith, c.total-end.ensures, c.run_thousand-ran.auto.arena)
+    let done = sym (ap (reply totals_values) c.in-Ok.is) ∙ c.run_thousand-ran.ensures.answer in
+    omega (arith, few_waits args.workers args.nodes args.schedule.now c.in-Ok.totals done)
 
-pub print_keys-requires : goal.print_keys-requires
-print_keys-requires c =
+pub slice_bounds-print_roll-end : goal.slice_bounds-print_roll-end
+slice_bounds-print_roll-end c =
     let args = c.args in
-    let done = sym (ap summary_reply c.in-Done.is) ∙ c.run_thousand-ran.ensures.answer in
-    let totals = c.in-Done.totals in
+    let done = sym (ap (reply totals_values) c.in-Ok.is) ∙ c.run_thousand-ran.ensures.answer in
+    let room = (passed args.workers args.nodes args.schedule.now c.in-Ok.totals done).fits in
+    omega (arith, c.total-end.ensures, c.run_thousand-ran.auto.arena, length-replicate {A = ℕ})
+
+pub print_roll-requires : goal.print_roll-requires
+print_roll-requires c =
+    let args = c.args in
+    let done = sym (ap (reply totals_values) c.in-Ok.is) ∙ c.run_thousand-ran.ensures.answer in
+    let totals = c.in-Ok.totals in
     let end : c.total-end.result - 0 ≡ total layout2 args.workers args.nodes = omega (arith, c.total-end.ensures) in
-    rw (
-      end,
-      c.run_thousand-ran.ensures.words,
-      arena_are args.workers args.nodes args.schedule.now totals done,
-    )
+    rw (end, c.run_thousand-ran.ensures.words, arena_are args.workers args.nodes args.schedule.now totals done)
     (roll_room args.workers args.nodes args.schedule.now totals done)
 
-pub returns-in-Done : goal.returns-in-Done
-returns-in-Done c =
+pub returns-in-Ok : goal.returns-in-Ok
+returns-in-Ok c =
     let args = c.args in
-    let done = sym (ap summary_reply c.in-Done.is) ∙ c.run_thousand-ran.ensures.answer in
-    let totals = c.in-Done.totals in
+    let done = sym (ap (reply totals_values) c.in-Ok.is) ∙ c.run_thousand-ran.ensures.answer in
+    let totals = c.in-Ok.totals in
     let ran = c.run_thousand-ran.ensures in
+    let calls_end : c.from-in-Ok.result - 0 ≡ totals.calls = omega arith in
+    let waits_end : c.from-in-Ok-2.result - 0 ≡ totals.waits = omega arith in
     let end : c.total-end.result - 0 ≡ total layout2 args.workers args.nodes = omega (arith, c.total-end.ensures) in
+    let calls = rw (calls_end, waits_end) at c.print_calls.ensures in
     rw (← whole_text args.workers args.nodes args.schedule.now totals done ran.calls ran.waits ran.words end)
-    (printed_then (printed_then c.print_totals-calls_at.ensures c.print_calls-roll_at.ensures) c.print_keys.ensures)
+    (prints_then (prints_then c.print_totals.ensures calls) c.print_roll.ensures)

@@ -1,5 +1,6 @@
 -- What a run answers, as one number and four totals; only a run that is done replies 0.
-use Rattle.capi.proofs.NumberLaws.{run_readable, zero_done}
+use Rattle.schedule.specs.Run.{totals_values}
+use Rattle.capi.proofs.NumberLaws.{told_bare, zero_done}
 use Rattle.capi.proofs.lazy_list_run.Goals as goal
 
 pub returns : goal.returns
@@ -7,10 +8,10 @@ returns c =
     let s = c.run-summary.result in
     let ran = c.run-summary.ensures in
     record {
-      number = rw (c.of_summary.ensures, ran.answer);
+      number = rw (c.number.ensures.number, told_bare totals_values s, ran.answer);
       words = ran.words;
       calls = ran.calls;
       waits = ran.waits;
       totals = rw (c.write_totals.ensures, ran.answer);
-      linearizable = λ zero. zero_done s _ _ _ (rw ran.answer (run_readable _ _ _ _ _ _)) (rw (← c.of_summary.ensures) zero) ran.linearizable;
+      linearizable = λ zero. zero_done s _ _ _ (rw (← c.number.ensures.number) zero) ran.linearizable;
     }

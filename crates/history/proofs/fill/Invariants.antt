@@ -1,11 +1,8 @@
--- The invariant: the first i records are filled in.
-use Rattle.std.proofs.Common.{◌≡◌, ◌≤◌, ◌-◌}
-use Rattle.schedule.specs.Book.{call_in}
+-- The invariant: the records before this one are filled in.
+use Rattle.std.proofs.Common.{◌≡◌}
+use Rattle.schedule.specs.Records.{record_in}
 use Rattle.history.specs.Rows.{filled_row}
 use Rattle.history.proofs.fill.Given as goal
 
-abbrev pub invariant-loop-i : goal.invariant-loop-i
-invariant-loop-i l = (l.i ≤ l.count) × (l.row ≡ filled_row (call_in l.words) l.i l.initial.row)
-
-abbrev pub decreases-loop-i : goal.decreases-loop-i
-decreases-loop-i l = l.count - l.i
+abbrev pub invariant-loop-number : goal.invariant-loop-number
+invariant-loop-number g l = l.row ≡ filled_row (record_in g.row.WIDTH g.R.Record.first l.words) l.number l.initial.row

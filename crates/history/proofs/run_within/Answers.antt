@@ -9,8 +9,8 @@ pub returns : goal.returns
 returns c =
     let args = c.args in
     let run = c.run in
-    let calls = take (7 * c.room_for-call_room.result - 0) args.history.now in
-    let waits = take (4 * c.room_for-wait_room.result - 0) args.waited.now in
+    let calls = take (7 * c.min-call_room.result - 0) args.history.now in
+    let waits = take (4 * c.min-wait_room.result - 0) args.waited.now in
     ran_within _ _ _ _ _ _ _ _ calls waits _ _
     run.ensures.answer run.ensures.words run.ensures.calls run.ensures.waits run.ensures.linearizable
     run.auto.history run.auto.waits (rw length-take (omega arith)) (rw length-take (omega arith)) _ _

@@ -7,32 +7,26 @@ use Rattle.lazy.proofs.see.Goals as goal
 pub returns-then-state-eq-TAKE_STAGE : goal.returns-then-state-eq-TAKE_STAGE
 unfolding seen_by seen_of sight
 returns-then-state-eq-TAKE_STAGE c =
+    let nodes = c.nodes-nodes.ensures in
     rw (
       eq-eqb _ _ c.if-state-eq-TAKE_STAGE.true,
-      c.search-free.ensures,
-      c.look_at_curr-curr.ensures,
-      c.look_at_pred-pred.ensures,
-      c.word-count.ensures,
-      c.node_width-width.ensures,
-      c.word.ensures,
-      c.node_part-nodes.ensures,
+      c.search.ensures,
+      c.look_at_curr.ensures,
+      c.look_at_pred.ensures,
+      nodes.words,
+      nodes.width,
+      nodes.count,
     )
 
-pub returns : goal.returns
+pub returns-else-state-eq-TAKE_STAGE : goal.returns-else-state-eq-TAKE_STAGE
 unfolding seen_by seen_of sight
-returns c =
+returns-else-state-eq-TAKE_STAGE c =
+    let nodes = c.nodes-nodes.ensures in
     rw (
       ne_eqb _ _ c.if-state-eq-TAKE_STAGE.false,
-      c.look_at_curr-curr.ensures,
-      c.look_at_pred-pred.ensures,
-      c.word-count.ensures,
-      c.node_width-width.ensures,
-      c.word.ensures,
-      c.node_part-nodes.ensures,
+      c.look_at_curr.ensures,
+      c.look_at_pred.ensures,
+      nodes.words,
+      nodes.width,
+      nodes.count,
     )
-
-pub node_part-nodes-requires : goal.node_part-nodes-requires
-node_part-nodes-requires c = c.requires
-
-pub search-free-requires : goal.search-free-requires
-search-free-requires c = c.requires

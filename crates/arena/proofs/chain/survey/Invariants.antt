@@ -14,8 +14,8 @@ invariant-loop-at l =
     × (length l.row ≡ length l.initial.row)
     × (steps : ℕ)
     × (65536 ≤ l.last + steps)
-    × (gathered l.width l.nodes l.count 0 l.initial.row (walk l.width l.nodes l.count 65536 l.initial.last l.initial.at)
-    ≡ gathered l.width l.nodes l.count l.listed l.row (walk l.width l.nodes l.count steps l.last l.at))
+    × (gathered l.nodes.width l.nodes.words.now l.nodes.count 0 l.initial.row (walk l.nodes.width l.nodes.words.now l.nodes.count 65536 l.initial.last l.initial.at)
+    ≡ gathered l.nodes.width l.nodes.words.now l.nodes.count l.listed l.row (walk l.nodes.width l.nodes.words.now l.nodes.count steps l.last l.at))
 
 abbrev pub decreases-loop-at : goal.decreases-loop-at
 decreases-loop-at l = 65536 - l.last

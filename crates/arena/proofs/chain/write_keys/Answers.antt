@@ -2,63 +2,79 @@
 use Rattle.std.proofs.Common.{ℕ, List, [], ◌∷◌, ◌++◌, sym, ap, ◌∙◌, arith, drop}
 use Rattle.std.proofs.Math.ListN.{replicate, length-replicate}
 use Rattle.std.proofs.Math.Seq.{length-take-le}
+use Rattle.std.proofs.lemmas.Result.{err_from_is_err_and}
 use Rattle.words.specs.Replies.{accepted}
-use Rattle.arena.specs.Snapshot.{listing_reply}
 use Rattle.arena.proofs.ShortChains.{chain_few}
 use Rattle.arena.proofs.Walks.{keys_broken, keys_count, keys_written, keys_fit, keys_short}
 use Rattle.arena.proofs.chain.write_keys.Goals as goal
 
-pub returns-then-keys-n : goal.returns-then-keys-n
-returns-then-keys-n c =
-    let args = c.args in
-    let told = c.in-Keys.ensures.answer in
+pub returns-in_err-count : goal.returns-in_err-count
+returns-in_err-count c =
+    let nodes = c.args.nodes in
+    let told = c.in_err-count.ensures.answer in
     record {
-      answer = sym (keys_short args.width args.nodes.now args.count _ told _ _ _ c.if-keys-n.true);
-      words = sym (keys_short args.width args.nodes.now args.count _ told _ _ _ c.if-keys-n.true);
+      answer = let p = err_from_is_err_and c.from_residual.result c.from_residual.ensures.1 in rw (p.1, p.2) (sym (keys_broken nodes.width nodes.words.now nodes.count _ _ _ _ _ told));
+      words = sym (keys_broken nodes.width nodes.words.now nodes.count _ _ _ _ _ told);
+    }
+
+pub returns-then-keys-end : goal.returns-then-keys-end
+returns-then-keys-end c =
+    let nodes = c.args.nodes in
+    let told = c.in_ok-count.ensures.answer in
+    record {
+      answer = sym (keys_short nodes.width nodes.words.now nodes.count _ told _ _ _ c.if-keys-end.true);
+      words = sym (keys_short nodes.width nodes.words.now nodes.count _ told _ _ _ c.if-keys-end.true);
     }
 
 pub slice_bounds-row-end : goal.slice_bounds-row-end
 slice_bounds-row-end c =
-    let args = c.args in
+    let nodes = c.args.nodes in
     omega (
       arith,
-      c.survey-found.auto.row,
-      keys_count args.width args.nodes.now args.count _ c.in-Keys.ensures.answer,
-      chain_few args.width args.nodes.now args.count,
+      c.survey.auto.row,
+      keys_count nodes.width nodes.words.now nodes.count _ c.in_ok-count.ensures.answer,
+      chain_few nodes.width nodes.words.now nodes.count,
+      nodes.spans,
     )
 
-pub slice_bounds-write-end-in-Keys-2 : goal.slice_bounds-write-end-in-Keys-2
-slice_bounds-write-end-in-Keys-2 c =
-    let args = c.args in
+pub slice_bounds-copy_from_slice-end-3 : goal.slice_bounds-copy_from_slice-end-3
+slice_bounds-copy_from_slice-end-3 c =
+    let nodes = c.args.nodes in
     sym
     (length-take-le _ _
     (omega (
       arith,
-      c.survey-found.auto.row,
-      keys_count args.width args.nodes.now args.count _ c.in-Keys.ensures.answer,
-      chain_few args.width args.nodes.now args.count,
+      c.survey.auto.row,
+      keys_count nodes.width nodes.words.now nodes.count _ c.in_ok-count.ensures.answer,
+      chain_few nodes.width nodes.words.now nodes.count,
+      nodes.spans,
     )))
 
-pub returns-else-keys-n : goal.returns-else-keys-n
-returns-else-keys-n c =
-    let args = c.args in
-    let told = c.in-Keys.ensures.answer in
+pub copy_from_slice-requires : goal.copy_from_slice-requires
+copy_from_slice-requires c =
+    let nodes = c.args.nodes in
+    length-take-le _ _ c.if-keys-end.false
+    ∙ sym
+    (length-take-le _ _
+    (omega (
+      arith,
+      c.survey.auto.row,
+      keys_count nodes.width nodes.words.now nodes.count _ c.in_ok-count.ensures.answer,
+      chain_few nodes.width nodes.words.now nodes.count,
+      nodes.spans,
+    )))
+
+pub returns : goal.returns
+returns c =
+    let nodes = c.args.nodes in
+    let told = c.in_ok-count.ensures.answer in
     record {
       answer =
-          ap (λ (k : ℕ). accepted (k ∷ [])) (sym (keys_count args.width args.nodes.now args.count _ told))
-          ∙ sym (keys_fit args.width args.nodes.now args.count _ told _ _ _ c.if-keys-n.false);
+          ap (λ (k : ℕ). accepted (k ∷ [])) (sym (keys_count nodes.width nodes.words.now nodes.count _ told))
+          ∙ sym (keys_fit nodes.width nodes.words.now nodes.count _ told _ _ _ c.if-keys-end.false);
       words =
-          ap (λ (words : List ℕ). words ++ drop c.in-Keys.n args.keys.now) c.write.ensures
-          ∙ keys_written args.width args.nodes.now args.count _ told (replicate 1024 0) _ args.keys.now
-          (rw length-replicate (omega (arith, c.requires))) c.survey-found.ensures.words c.if-keys-n.false
-          ∙ sym (keys_fit args.width args.nodes.now args.count _ told _ _ _ c.if-keys-n.false);
-    }
-
-pub returns-in_default : goal.returns-in_default
-returns-in_default c =
-    let args = c.args in
-    let told = c.in_default.ensures.answer in
-    record {
-      answer = ap listing_reply c.in_default.is ∙ sym (keys_broken args.width args.nodes.now args.count _ _ _ _ _ told);
-      words = sym (keys_broken args.width args.nodes.now args.count _ _ _ _ _ told);
+          ap (λ (words : List ℕ). words ++ drop c.in_ok-count.count c.args.keys.now) c.copy_from_slice.ensures.after
+          ∙ keys_written nodes.width nodes.words.now nodes.count _ told (replicate 1024 0) _ c.args.keys.now
+          (rw length-replicate (omega (arith, nodes.spans))) c.survey.ensures.words
+          ∙ sym (keys_fit nodes.width nodes.words.now nodes.count _ told _ _ _ c.if-keys-end.false);
     }

@@ -1,10 +1,8 @@
 -- Line 1 decides whether the other lines are read.
-use mathlib.Core.Path.{sym, ap, ◌∙◌}
-use native.Mathlib.Omega.{arith}
-use lib.Seq.{length-take-le}
-use Rattle.bench_input.specs.Input.{parsed_of, scheduled}
-use Rattle.bench_input.proofs.LineLaws.{behind_length}
-use Rattle.bench_input.proofs.InputLaws.{nothing_written, too_long, no_line, not_board, bad_counts, good_counts_lem}
+use Rattle.std.proofs.Common.{◌≡◌, None, Err, [], ◌∷◌, sym, ◌∙◌, arith}
+use Rattle.bench_input.specs.Bytes.{line_feed, parts}
+use Rattle.bench_input.specs.Input.{counts_of}
+use Rattle.bench_input.proofs.InputLaws.{nothing_written, too_long, no_line, first_line}
 use Rattle.bench_input.proofs.input.parse.Goals as goal
 
 pub returns-then-input-gt-MOST_BYTES : goal.returns-then-input-gt-MOST_BYTES
@@ -12,41 +10,23 @@ returns-then-input-gt-MOST_BYTES c =
     let both = nothing_written _ _ 0 (too_long _ c.if-input-gt-MOST_BYTES.true) in
     record { answer = both.0; words = both.1 }
 
-pub returns-then-input-end : goal.returns-then-input-end
-returns-then-input-end c =
-    let both = nothing_written _ _ 1 (no_line _ c.if-input-gt-MOST_BYTES.false _ c.find-end.ensures c.if-input-end.true) in
-    record { answer = both.0; words = both.1 }
+pub returns-in_err-first : goal.returns-in_err-first
+returns-in_err-first c =
+    let whole : parts line_feed c.args.input.now ≡ c.args.input.now ∷ [] = rw c.in_err-first.ensures.ok_part at c.split_once.ensures.parts in
+    let failed : c.from_residual.result ≡ Err (record { 0 = 1 }) = grind arith in
+    let both = nothing_written _ _ 1 (no_line _ c.if-input-gt-MOST_BYTES.false whole) in
+    record { answer = failed ∙ both.0; words = both.1 }
 
-pub slice_bounds-line_of-end : goal.slice_bounds-line_of-end
-slice_bounds-line_of-end c = sym (length-take-le _ _ (omega arith))
-
-pub returns-in_default : goal.returns-in_default
-returns-in_default c =
-    let both = nothing_written _ _ 1
-    (not_board _ c.if-input-gt-MOST_BYTES.false _ c.find-end.ensures c.if-input-end.false _
-    c.line_of.ensures c.in_default.not-Board) in
-    record { answer = both.0; words = both.1 }
-
-pub returns-then-not-good_counts : goal.returns-then-not-good_counts
-returns-then-not-good_counts c =
-    let both = nothing_written _ _ 1
-    (bad_counts _ c.if-input-gt-MOST_BYTES.false _ c.find-end.ensures c.if-input-end.false _ _
-    (sym c.in-Board.ensures)
-    (sym c.good_counts.ensures ∙ c.if-not-good_counts.true)) in
-    record { answer = both.0; words = both.1 }
-
-pub parse_entries-requires : goal.parse_entries-requires
-parse_entries-requires c =
-    let input = c.args.input.now in
-    omega (arith, behind_length c.find-end.result input c.if-input-end.false)
+pub returns-in_err-workers : goal.returns-in_err-workers
+returns-in_err-workers c =
+    let cut = rw c.in_ok-first.ensures.ok_part at c.split_once.ensures.parts in
+    let none : counts_of c.in_ok-first.first.now ≡ None = sym c.counts_of.ensures ∙ c.in_err-workers.ensures.ok_part in
+    let failed : c.from_residual-in_err-workers.result ≡ Err (record { 0 = 1 }) = grind arith in
+    let both = nothing_written _ _ 1 (first_line _ c.if-input-gt-MOST_BYTES.false _ _ cut ∙ rw none) in
+    record { answer = failed ∙ both.0; words = both.1 }
 
 pub returns : goal.returns
 returns c =
-    let input = c.args.input.now in
-    let whole = good_counts_lem input c.if-input-gt-MOST_BYTES.false _ c.find-end.ensures c.if-input-end.false _ _
-    (sym c.in-Board.ensures)
-    (sym c.good_counts.ensures ∙ c.if-not-good_counts.false) in
-    record {
-      answer = c.parse_entries.ensures.answer ∙ sym (ap parsed_of whole);
-      words = c.parse_entries.ensures.words ∙ sym (ap (scheduled _) whole);
-    }
+    let cut = rw c.in_ok-first.ensures.ok_part at c.split_once.ensures.parts in
+    let counts = sym c.counts_of.ensures ∙ c.in_ok-workers.ensures.ok_part in
+    rw (first_line _ c.if-input-gt-MOST_BYTES.false _ _ cut, counts) c.parse_entries.ensures

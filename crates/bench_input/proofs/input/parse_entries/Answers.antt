@@ -1,56 +1,29 @@
-use mathlib.Core.Path.{refl, sym, ap, ◌∙◌}
-use native.Mathlib.Omega.{arith}
-use lib.Seq.{length-take-le}
-use Rattle.bench_input.specs.Input.{with_line}
-use Rattle.bench_input.proofs.LineLaws.{behind_length}
-use Rattle.bench_input.proofs.InputLaws.{nothing_read, not_entries, too_many, read_not_ended, read_bad, read_all, read_on}
+use Rattle.std.proofs.Common.{◌≡◌, Err, ◌∙◌, arith}
+use Rattle.bench_input.proofs.InputLaws.{nothing_read, read_not_ended, read_line, read_all}
 use Rattle.bench_input.proofs.input.parse_entries.Goals as goal
 
-pub loop-rest-init : goal.loop-rest-init
-loop-rest-init c = (omega arith, omega arith, refl, nothing_read _ _ _ _)
+pub loop-first-init : goal.loop-first-init
+loop-first-init c = record { few = omega arith; numbered = omega arith; read = nothing_read _ _ _ _ }
 
-pub returns-then-rest-end : goal.returns-then-rest-end
-returns-then-rest-end c =
-    let loop = c.loop-rest in
-    let both = read_not_ended _ _ loop.invariant.3 _ c.find-end.ensures c.if-rest-end.true c.loop-rest-test.true in
+pub returns-in_err-entries : goal.returns-in_err-entries
+returns-in_err-entries c =
+    let write = c.write_line in
+    let failed : c.from_residual.result ≡ Err (record { 0 = c.loop-first.line }) = grind arith in
+    let both = rw c.in_err-entries.ensures.ok_part at (read_line _ _ c.loop-first.invariant.read _ _ _ _ c.in-Some.ensures.parts write.ensures.count write.ensures.words) in
+    record { answer = failed ∙ both.0; words = both.1 }
+
+pub loop-first-preserved : goal.loop-first-preserved
+loop-first-preserved c =
+    let write = c.write_line in
+    let both = rw c.in_ok-entries.ensures.ok_part at (read_line _ _ c.loop-first.invariant.read _ _ _ _ c.in-Some.ensures.parts write.ensures.count write.ensures.words) in
+    record { few = both.0; numbered = omega (arith, c.in-Some.ensures.shorter); read = both.1 }
+
+pub returns-then-not-is_empty : goal.returns-then-not-is_empty
+returns-then-not-is_empty c =
+    let both = read_not_ended _ _ c.loop-first.invariant.read c.in_default.ensures.parts (grind arith) in
     record { answer = both.0; words = both.1 }
-
-pub slice_bounds-line_of-end : goal.slice_bounds-line_of-end
-slice_bounds-line_of-end c = sym (length-take-le _ _ (omega arith))
-
-pub returns-in_default : goal.returns-in_default
-returns-in_default c =
-    let read = c.loop-rest.invariant.3 in
-    let both = read_bad _ _ read _ c.find-end.ensures c.if-rest-end.false
-    (ap (with_line read.entries) (sym c.line_of.ensures) ∙ not_entries _ _ c.in_default.not-Entries) in
-    record { answer = both.0; words = both.1 }
-
-pub returns-then-entries-count : goal.returns-then-entries-count
-returns-then-entries-count c =
-    let read = c.loop-rest.invariant.3 in
-    let both = read_bad _ _ read _ c.find-end.ensures c.if-rest-end.false
-    (ap (with_line read.entries) (sym c.in-Entries.ensures)
-    ∙ too_many read.entries _ _ _ _ _ (omega (arith, read.counted))) in
-    record { answer = both.0; words = both.1 }
-
-pub loop-rest-smaller : goal.loop-rest-smaller
-loop-rest-smaller c =
-    let loop = c.loop-rest in
-    omega (arith, behind_length c.find-end.result loop.rest.now c.if-rest-end.false)
-
-pub loop-rest-preserved : goal.loop-rest-preserved
-loop-rest-preserved c =
-    let loop = c.loop-rest in
-    let args = c.args in
-    let writes = c.write_entries in (
-      omega arith,
-      omega (arith, behind_length c.find-end.result loop.rest.now c.if-rest-end.false),
-      writes.auto.schedule ∙ loop.invariant.2,
-      read_on args.workers args.nodes loop.invariant.3 _ _ _ _ _ _ _ c.find-end.ensures c.if-rest-end.false
-          (sym c.in-Entries.ensures) (omega arith) writes.ensures,
-    )
 
 pub returns : goal.returns
 returns c =
-    let both = read_all _ _ c.loop-rest.invariant.3 (omega arith) in
+    let both = read_all _ _ c.loop-first.invariant.read c.in_default.ensures.parts (grind arith) in
     record { answer = both.0; words = both.1 }

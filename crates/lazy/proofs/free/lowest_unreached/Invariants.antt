@@ -7,6 +7,3 @@ use Rattle.lazy.proofs.free.lowest_unreached.Given as goal
 
 abbrev pub invariant-loop-node : goal.invariant-loop-node
 invariant-loop-node l = lowest_from (holds l.reached) l.count 0 ≡ lowest_from (holds l.reached) (l.count - l.node) l.node
-
-abbrev pub decreases-loop-node : goal.decreases-loop-node
-decreases-loop-node l = l.count - l.node

@@ -1,9 +1,10 @@
 use native.Mathlib.Omega.{arith}
-use Rattle.words.specs.Layout.{node_next}
-use Rattle.words.proofs.Slots.{slot_within}
 use Rattle.lazy.proofs.Rows.{one_more}
 use Rattle.lazy.proofs.Walk.{begin, step, finish}
 use Rattle.lazy.proofs.free.reach_from.Goals as goal
+
+pub loop-node-init : goal.loop-node-init
+loop-node-init c = (begin c.requires.0, c.requires.1)
 
 pub returns-then-reached-node : goal.returns-then-reached-node
 returns-then-reached-node c =
@@ -13,24 +14,11 @@ returns-then-reached-node c =
       counted = loop.invariant.1;
     }
 
-pub returns : goal.returns
-returns c =
-    let loop = c.loop-node in
-    record {
-      walked = finish loop.invariant.0 (λ k. absurd (omega arith));
-      counted = loop.invariant.1;
-    }
-
-pub read_next-link-requires : goal.read_next-link-requires
-read_next-link-requires c =
+pub overflow_add-so_far : goal.overflow_add-so_far
+overflow_add-so_far c =
     let loop = c.loop-node in
     let grows = one_more _ loop.reached loop.node c.loop-node-test.true loop.invariant.0.room c.if-reached-node.false in
-    let spans = c.requires.1 in
-    let below = c.loop-node-test.true in (
-      omega arith,
-      let within = slot_within c.args.width _ _ node_next below spans.0 in omega arith,
-      omega (arith, c.loop-node.invariant.1, grows.1),
-    )
+    omega (arith, loop.invariant.1, grows.1, c.args.nodes.spans)
 
 pub loop-node-smaller : goal.loop-node-smaller
 loop-node-smaller c =
@@ -42,9 +30,14 @@ pub loop-node-preserved : goal.loop-node-preserved
 loop-node-preserved c =
     let loop = c.loop-node in
     let grows = one_more _ loop.reached loop.node c.loop-node-test.true loop.invariant.0.room c.if-reached-node.false in (
-      rw c.read_next-link.ensures.0 (step loop.invariant.0 c.loop-node-test.true),
-      omega (arith, c.read_next-link.ensures.1, loop.invariant.1, grows.0),
+      rw c.next_of-node.ensures (step loop.invariant.0 c.loop-node-test.true),
+      omega (arith, loop.invariant.1, grows.0),
     )
 
-pub loop-node-init : goal.loop-node-init
-loop-node-init c = (begin c.requires.0, c.requires.2)
+pub returns : goal.returns
+returns c =
+    let loop = c.loop-node in
+    record {
+      walked = finish loop.invariant.0 (λ k. absurd (omega arith));
+      counted = loop.invariant.1;
+    }

@@ -8,7 +8,8 @@ use Rattle.lazy.proofs.free.reach_from.Given as goal
 
 abbrev pub invariant-loop-node : goal.invariant-loop-node
 invariant-loop-node l =
-    Walking (next_at l.width l.nodes) l.count l.root l.initial.reached l.reached l.node × (l.so_far ≡ held l.count l.reached)
+    Walking (next_at l.nodes.width l.nodes.words.now) l.nodes.count l.root l.initial.reached l.reached l.node
+    × (l.so_far ≡ held l.nodes.count l.reached)
 
 abbrev pub decreases-loop-node : goal.decreases-loop-node
-decreases-loop-node l = l.count - held l.count l.reached
+decreases-loop-node l = l.nodes.count - held l.nodes.count l.reached

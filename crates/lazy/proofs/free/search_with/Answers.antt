@@ -1,9 +1,8 @@
-use mathlib.Core.Path.{◌≡◌, refl, sym}
+use mathlib.Core.Path.{◌≡◌, sym}
 use mathlib.Core.List.{[], ◌∷◌}
 use native.Mathlib.Omega.{arith}
 use native.Mathlib.Numerals.{add-one}
 use lib.ListN.{length}
-use borrow.Author.Rules.{rules}
 use Rattle.words.specs.Layout.{workers_of}
 use Rattle.words.specs.Records.{worker_at}
 use Rattle.lazy.specs.Free.{roots_of}
@@ -13,44 +12,35 @@ use Rattle.lazy.proofs.free.search_with.Goals as goal
 pub reach_from-head-requires : goal.reach_from-head-requires
 reach_from-head-requires c =
     let room = length c.args.reached.now in
-    let row = c.requires.0 in
-    (rw row (empty_closed room c.requires.1), c.requires.2, rw row (sym (empty_held c.args.count room)))
-
-pub reach_from-reads-requires : goal.reach_from-reads-requires
-reach_from-reads-requires c =
-    let head = c.reach_from-head.ensures in
-    (head.walked.closed, c.requires.2, head.counted)
+    let row = c.requires.empty in
+    (rw (row, c.nodes-nodes.ensures.count) (empty_closed room c.requires.room), rw row (sym (empty_held c.nodes-nodes.result.count room)))
 
 pub loop-number-init : goal.loop-number-init
 unfolding roots_of
 loop-number-init c =
     let tail = c.reach_from-reads.ensures in
     let head = c.reach_from-head.ensures in
-    let walked = from_empty c.requires.0 (both head.walked tail.walked) in
-    (walked.0, omega arith, refl, tail.counted, walked.1)
-
-pub reach_worker-reads-requires : goal.reach_worker-reads-requires
-reach_worker-reads-requires c =
-    (c.loop-number.invariant.4.closed, c.requires.2, c.loop-number.invariant.3, omega (arith, c.requires.3, c.word-workers.ensures))
+    let walked = from_empty c.requires.empty (both head.walked tail.walked) in
+    (walked.0, tail.counted, walked.1)
 
 pub loop-number-preserved : goal.loop-number-preserved
 unfolding roots_of
 loop-number-preserved c =
-    let args = c.args in
-    let workers = worker_at args.arena.now in
-    let worker = workers c.loop-number.number in
-    let walked = c.reach_worker-reads.ensures in (
-      c.loop-number.invariant.0,
-      omega arith,
-      search rules,
+    let loop = c.loop-number in
+    let workers = worker_at c.args.arena.words.now in
+    let worker = workers loop.number in
+    let walked = rw c.worker.ensures at c.reach_worker-reads.ensures in (
+      loop.invariant.0,
       walked.counted,
       rw add-one
-          (swapped (roots_of workers c.loop-number.number) (worker.pred ∷ worker.curr ∷ worker.spare ∷ [])
-          (both c.loop-number.invariant.4 walked.walked)),
+          (swapped (roots_of workers loop.number) (worker.pred ∷ worker.curr ∷ worker.spare ∷ [])
+          (both loop.invariant.2 walked.walked)),
     )
 
 pub returns : goal.returns
 returns c =
-    let all : c.loop-number.number ≡ workers_of c.args.arena.now = omega (arith, c.word-workers.ensures) in
-    let told = tells c.loop-number.invariant.0 (rw all at c.loop-number.invariant.4) in
-    rw (c.lowest_unreached-free.ensures, told.0, c.loop-number.invariant.3, told.1)
+    let loop = c.loop-number in
+    let nodes = c.nodes-nodes.ensures in
+    let all : loop.number ≡ workers_of c.args.arena.words.now = omega (arith, c.worker_count-number-end.ensures) in
+    let told = tells loop.invariant.0 (rw all at loop.invariant.2) in
+    rw (c.lowest_unreached.ensures, told.0, loop.invariant.1, told.1, nodes.words, nodes.width, nodes.count)

@@ -18,9 +18,6 @@ returns-then-not-is_decision c =
       books = rw none;
     }
 
-pub book_decision-next-requires : goal.book_decision-next-requires
-book_decision-next-requires c = sym c.is_decision.ensures ∙ c.if-not-is_decision.false
-
 pub returns : goal.returns
 unfolding with_decision worker_at is_decision
 returns c =

@@ -6,40 +6,32 @@ use Rattle.schedule.proofs.entries.enter_start.Goals as goal
 
 pub absent_from-requires : goal.absent_from-requires
 absent_from-requires c =
+    let here = c.start.ensures.words ∙ start_arena_lem c.args.arena.now c.args.entry c.requires.starts in
+    rw here c.requires.in_order
+
+pub returns-in-Err : goal.returns-in-Err
+unfolding next_book next_calls next_waits
+returns-in-Err c =
     let args = c.args in
-    let here = c.start.ensures.words ∙ start_arena_lem args.arena.now args.worker args.act args.key args.length c.requires.act_nonzero in
+    let told = c.in-Err.ensures.answer in
+    let then = after_refused_start args.arena.now args.entry args.time args.book c.requires.starts told in
     record {
-      accepted_value = rw here c.requires.accepted_value;
-      arena_value = rw here c.requires.length_value;
+      words = c.start.ensures.words ∙ start_arena_lem args.arena.now args.entry c.requires.starts;
+      calls = then.calls args.history.now;
+      waits = then.waits;
+      books = c.refuse.ensures ∙ then.books;
     }
 
-pub returns-in-Refused : goal.returns-in-Refused
+pub returns-in-Ok : goal.returns-in-Ok
 unfolding next_book next_calls next_waits
-returns-in-Refused c =
-    let start = c.start in
+returns-in-Ok c =
     let args = c.args in
-    let act = c.requires.act_nonzero in
-    let told = c.in-Refused.ensures.answer in
-    let after = after_refused_start args.arena.now args.worker args.time args.book args.act args.key args.length act told in
-    record {
-      words = start.ensures.words ∙ start_arena_lem args.arena.now args.worker args.act args.key args.length act;
-      calls = after.calls args.history.now;
-      waits = after.waits;
-      books = c.refuse.ensures ∙ after.books;
-    }
-
-pub returns-in-Accepted : goal.returns-in-Accepted
-unfolding next_book next_calls next_waits
-returns-in-Accepted c =
-    let start = c.start in
-    let args = c.args in
-    let act = c.requires.act_nonzero in
-    let told = c.in-Accepted.ensures.answer in
-    let here = start.ensures.words ∙ start_arena_lem args.arena.now args.worker args.act args.key args.length act in
-    let after = after_start args.arena.now args.worker args.time args.book args.act args.key args.length act told in
+    let told = c.in-Ok.ensures.answer in
+    let here = c.start.ensures.words ∙ start_arena_lem args.arena.now args.entry c.requires.starts in
+    let then = after_start args.arena.now args.entry args.time args.book c.requires.starts told in
     record {
       words = here;
-      calls = rw (c.write_call.ensures, c.new.ensures) (after.calls args.history.now);
-      waits = after.waits;
-      books = rw (c.start-in-Accepted.ensures, c.absent_from.ensures, here) after.books;
+      calls = rw (c.write.ensures, c.new.ensures) (then.calls args.history.now);
+      waits = then.waits;
+      books = rw (c.start-in-Ok.ensures, c.absent_from.ensures, here) then.books;
     }

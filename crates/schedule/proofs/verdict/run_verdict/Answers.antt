@@ -1,67 +1,23 @@
--- Each test decides the definition's choice.
-use Rattle.std.proofs.Common.{sym, ◌∙◌}
-use borrow.Author.Tests.{lt-ltb, le-ltb, leb-true, leb-false}
+-- No test holds.
+use Rattle.std.proofs.Common.{◌≡◌, true, rules, sym, ◌∙◌}
+use borrow.Author.Tests.{le-ltb, leb-true}
+use Rattle.words.specs.Layout.{layout2, good_counts}
 use Rattle.schedule.specs.Run.{run_refusals}
 use Rattle.schedule.proofs.EntryLaws.{turns_within, below_or_not}
 use Rattle.schedule.proofs.verdict.run_verdict.Goals as goal
 
-pub returns-then-not-good_counts : goal.returns-then-not-good_counts
+pub returns-clause-answer : goal.returns-clause-answer
 unfolding run_refusals
-returns-then-not-good_counts c = rw (sym c.good_counts.ensures ∙ c.if-not-good_counts.true)
-
-pub returns-then-is_bad : goal.returns-then-is_bad
-unfolding run_refusals
-returns-then-is_bad c =
+returns-clause-answer c =
+    let args = c.args in
+    let counts = c.in_ok-counts.counts in
+    let same : (counts.layout ≡ layout2) × (counts.workers ≡ args.workers) × (counts.nodes ≡ args.nodes) = search rules in
+    let good : good_counts layout2 args.workers args.nodes ≡ true = rw (same.0, same.1, same.2) at counts.good in
+    let whole = rw (same.0, same.1, same.2) at c.total.ensures in
     rw (
-      sym c.good_counts.ensures ∙ c.if-not-good_counts.false,
-      sym c.is_bad.ensures ∙ c.if-is_bad.true,
-    )
-
-pub returns-then-arena-total : goal.returns-then-arena-total
-unfolding run_refusals
-returns-then-arena-total c =
-    rw (
-      sym c.good_counts.ensures
-          ∙ c.if-not-good_counts.false,
+      good,
       sym c.is_bad.ensures ∙ c.if-is_bad.false,
-      ← c.total.ensures,
-      lt-ltb _ _ c.if-arena-total.true,
-    )
-
-pub returns-then-not-has_room : goal.returns-then-not-has_room
-unfolding run_refusals
-returns-then-not-has_room c =
-    rw (
-      sym c.good_counts.ensures
-          ∙ c.if-not-good_counts.false,
-      sym c.is_bad.ensures ∙ c.if-is_bad.false,
-      ← c.total.ensures,
-      le-ltb _ _ c.if-arena-total.false,
-      lt-ltb _ _ (leb-false _ _ (sym c.has_room.ensures ∙ c.if-not-has_room.true)),
-    )
-
-pub returns-then-not-has_room-2 : goal.returns-then-not-has_room-2
-unfolding run_refusals
-returns-then-not-has_room-2 c =
-    rw (
-      sym c.good_counts.ensures ∙ c.if-not-good_counts.false,
-      sym c.is_bad.ensures ∙ c.if-is_bad.false,
-      ← c.total.ensures,
-      le-ltb _ _ c.if-arena-total.false,
-      le-ltb _ _ (leb-true _ _ (sym c.has_room.ensures ∙ c.if-not-has_room.false)),
-      ← turns_within,
-      below_or_not,
-      ← c.has_room-2.ensures,
-      c.if-not-has_room-2.true,
-    )
-
-pub returns : goal.returns
-unfolding run_refusals
-returns c =
-    rw (
-      sym c.good_counts.ensures ∙ c.if-not-good_counts.false,
-      sym c.is_bad.ensures ∙ c.if-is_bad.false,
-      ← c.total.ensures,
+      ← whole,
       le-ltb _ _ c.if-arena-total.false,
       le-ltb _ _ (leb-true _ _ (sym c.has_room.ensures ∙ c.if-not-has_room.false)),
       ← turns_within,

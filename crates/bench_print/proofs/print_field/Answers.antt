@@ -1,6 +1,0 @@
--- The space, and the number behind it.
-use Rattle.bench_print.proofs.PrintLaws.{printed_then}
-use Rattle.bench_print.proofs.print_field.Goals as goal
-
-pub returns : goal.returns
-returns c = printed_then c.put-next.ensures c.print_number.ensures

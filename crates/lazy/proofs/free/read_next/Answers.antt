@@ -1,8 +1,0 @@
--- The word read is the node's next.
-use mathlib.Core.Path.{refl}
-use Rattle.words.specs.Records.{node_at}
-use Rattle.lazy.proofs.free.read_next.Goals as goal
-
-pub returns : goal.returns
-unfolding node_at
-returns c = (rw c.slot.ensures, refl)
