@@ -1,12 +1,15 @@
 -- The entries of a schedule, four words after four words.
 use Prim.Native.Nat.{ℕ, zero, suc, ◌+◌, ◌*◌, ◌≤◌, ◌<◌, ◌/◌}
 use mathlib.Core.Path.{◌≡◌, refl, ap}
-use mathlib.Core.List.{List, [], ◌∷◌, ◌++◌}
+use mathlib.Core.List.{List, [], ◌∷◌, map}
 use mathlib.Core.Bool.{Bool, true, false, cond, not, and-false}
 use native.Mathlib.Omega.{arith}
-use lib.ListN.{length, get_or, take, drop}
+use lib.ListN.{length}
 use lib.Dec.{leb, ltb, eqb}
 use borrow.Author.Tests.{lt-leb, ne_eqb, lt-ltb, le-ltb, leb-true, leb-false}
+use Rattle.std.specs.Simd.{first_chunks}
+use Rattle.std.specs.List.{count_by}
+use Rattle.std.proofs.lemmas.List.Recursion.{is_count_by}
 use Rattle.worker.specs.Worker.{within}
 use Rattle.worker.specs.Refusals.{Test, judged}
 use Rattle.arena.specs.Start.{start_refusals}
@@ -15,43 +18,6 @@ use Rattle.arena.proofs.ListLaws.{filter_shorter}
 use Rattle.linear.specs.Entries.{Entry, call_started, entry_refused, is_turn, is_waits, event_of}
 use Rattle.schedule.specs.Run.{entry_width, entries_of, count_in}
 use Rattle.schedule.specs.Book.{given, first_entry}
-
--- the four words from a place on, as an entry
-abbrev pub entry_from : List ℕ → ℕ → Entry
-entry_from schedule at = given (first_entry (take entry_width (drop at schedule)))
-
-onward : (k : ℕ) → entry_width * suc k ≡ suc (suc (suc (suc (entry_width * k))))
-onward k = omega arith
-
--- entry k is words 4k to 4k + 3
-pub entry_at_lem : (schedule : List ℕ) (k : ℕ) (default : Entry) → k < length schedule / entry_width →
-    get_or (entries_of schedule) k default ≡ entry_from schedule (entry_width * k)
-unfolding entries_of
-entry_at_lem [] k default h = absurd (omega arith)
-entry_at_lem (worker ∷ []) k default h = absurd (omega arith)
-entry_at_lem (worker ∷ act ∷ []) k default h = absurd (omega arith)
-entry_at_lem (worker ∷ act ∷ key ∷ []) k default h = absurd (omega arith)
-entry_at_lem (worker ∷ act ∷ key ∷ cells ∷ words) zero default h = refl
-entry_at_lem (worker ∷ act ∷ key ∷ cells ∷ words) (suc k) default h = rw (onward k) (entry_at_lem words k default (omega arith))
-
--- four words are an entry, and then come the others
-pub entry_first : (words rest : List ℕ) → length words ≡ entry_width → entries_of (words ++ rest) ≡ given (first_entry words) ∷ entries_of rest
-unfolding entries_of
-entry_first [] rest four = absurd (omega arith)
-entry_first (worker ∷ []) rest four = absurd (omega arith)
-entry_first (worker ∷ act ∷ []) rest four = absurd (omega arith)
-entry_first (worker ∷ act ∷ key ∷ []) rest four = absurd (omega arith)
-entry_first (worker ∷ act ∷ key ∷ cells ∷ []) rest four = refl
-entry_first (worker ∷ act ∷ key ∷ cells ∷ more ∷ words) rest four = absurd (omega arith)
-
--- fewer are none
-pub no_entry : (words : List ℕ) → length words < entry_width → entries_of words ≡ []
-unfolding entries_of
-no_entry [] few = refl
-no_entry (worker ∷ []) few = refl
-no_entry (worker ∷ act ∷ []) few = refl
-no_entry (worker ∷ act ∷ key ∷ []) few = refl
-no_entry (worker ∷ act ∷ key ∷ cells ∷ words) few = absurd (omega arith)
 
 -- how many there are
 entries_fit : (schedule : List ℕ) →
@@ -67,24 +33,34 @@ entries_fit (worker ∷ act ∷ key ∷ cells ∷ words) = let others = entries_
 pub entries_quotient : (schedule : List ℕ) → length schedule / entry_width ≡ length (entries_of schedule)
 entries_quotient schedule = let fit = entries_fit schedule in omega arith
 
--- and how many pass a test
+-- each is made of a chunk of four words
+abbrev pub entries : List (List ℕ) → List Entry
+entries chunks = map (λ words. given (first_entry words)) chunks
+
+by_count : (schedule : List ℕ) → entries (first_chunks entry_width (length (entries_of schedule)) schedule) ≡ entries_of schedule
+unfolding entries_of
+by_count [] = refl
+by_count (worker ∷ []) = refl
+by_count (worker ∷ act ∷ []) = refl
+by_count (worker ∷ act ∷ key ∷ []) = refl
+by_count (worker ∷ act ∷ key ∷ cells ∷ words) = ap (λ others. given (first_entry (worker ∷ act ∷ key ∷ cells ∷ [])) ∷ others) (by_count words)
+
+pub entries_chunked : (schedule : List ℕ) → entries (first_chunks entry_width (length schedule / entry_width) schedule) ≡ entries_of schedule
+entries_chunked schedule = rw (entries_quotient schedule) (by_count schedule)
+
+-- those that pass a test
+pub counted : (test : Entry → Bool) (chunks : List (List ℕ)) → count_in test (entries chunks) ≡ count_by (λ words. test (given (first_entry words))) chunks
+unfolding count_in filter
+counted test = is_count_by (λ chunks. count_in test (entries chunks)) (λ words. test (given (first_entry words))) refl
+    (λ words others. go (test (given (first_entry words))) (given (first_entry words)) (filter test (entries others)))
+  where
+    go : (is : Bool) (entry : Entry) (others : List Entry) → length (cond is (entry ∷ others) others) ≡ cond is (1 + length others) (length others)
+    go true entry others = omega arith
+    go false entry others = refl
+
 pub count_few : (test : Entry → Bool) (schedule : List ℕ) → count_in test (entries_of schedule) ≤ length schedule / entry_width
 unfolding count_in
 count_few test schedule = let fit = entries_fit schedule in omega (arith, filter_shorter test (entries_of schedule))
-
-module _ (test : Entry → Bool) (words rest : List ℕ) (four : length words ≡ entry_width) where
-  pub one_more : test (given (first_entry words)) ≡ true →
-      count_in test (entries_of (words ++ rest)) ≡ suc (count_in test (entries_of rest))
-  unfolding count_in filter
-  one_more is = rw (entry_first words rest four, is)
-
-  pub no_more : test (given (first_entry words)) ≡ false → count_in test (entries_of (words ++ rest)) ≡ count_in test (entries_of rest)
-  unfolding count_in filter
-  no_more is = rw (entry_first words rest four, is)
-
-pub none_left : (test : Entry → Bool) (words : List ℕ) → length words < entry_width → count_in test (entries_of words) ≡ 0
-unfolding count_in filter
-none_left test words few = rw (no_entry words few)
 
 -- the turns among them are those with acts from 0 to 0
 pub turns_within : (entries : List Entry) → count_in (λ entry. within 0 0 entry.act) entries ≡ count_in is_turn entries

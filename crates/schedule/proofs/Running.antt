@@ -7,7 +7,7 @@ use mathlib.Core.Bool.{Bool, true, false, cond, true≢false}
 use mathlib.Mathlib.Data.Bool.Basic.{dichotomy}
 use native.Mathlib.Omega.{arith}
 use native.Mathlib.Numerals.{add-one, sub-one}
-use lib.ListN.{length, get_or, take, drop, length-map, length-append, take-append-drop, drop_of_length-le}
+use lib.ListN.{length, get_or, take, drop, length-map, get_or-map, length-append, take-append-drop, drop_of_length-le}
 use lib.Seq.{take-suc}
 use borrow.Author.Tests.{le-ltb}
 use Rattle.worker.proofs.Laws.{call_parts}
@@ -25,11 +25,12 @@ use Rattle.linear.proofs.Members.{whole}
 use Rattle.linear.proofs.Timeline.{fresh_schedule, Schedule, Happens, nothing, start, turn, happens, arena, state, entry, outcome_is, run_starts_at, sound, always, last}
 use Rattle.linear.proofs.Waiting.{starts}
 use Rattle.schedule.specs.declared.book.Book.{Book}
-use Rattle.schedule.specs.Run.{entry_width, entries_of, is_operation, count_in, record_of, records_of, wait_of, waits_of, told, totals_of}
+use Rattle.schedule.specs.Run.{entries_of, is_operation, count_in, record_of, records_of, wait_of, waits_of, told, totals_of}
 use Rattle.schedule.specs.Run.{call_width, call_words, call_laws, wait_width, wait_words, wait_laws}
 use Rattle.schedule.specs.Records.{flat_words}
-use Rattle.schedule.specs.Book.{new_book, InOrder, Roomy, book_after, calls_after, waits_after}
-use Rattle.schedule.proofs.EntryLaws.{entry_from, entry_at_lem, entries_quotient, start_silent}
+use Rattle.schedule.specs.Book.{given, first_entry, new_book, InOrder, Roomy, book_after, calls_after, waits_after}
+use Rattle.schedule.proofs.EntryLaws.{entries_quotient, start_silent}
+use Rattle.schedule.proofs.EntryLaws.{entries}
 use Rattle.schedule.proofs.Flat.{flat_length}
 use Rattle.schedule.proofs.CallsBy.{call_last}
 use Rattle.schedule.proofs.Booked.{Booked, booked_first, booked_next}
@@ -39,6 +40,10 @@ use Rattle.schedule.proofs.KeptWaits.{waiting_at, run_wait_at, held_waits, waits
 
 abbrev nobody : Entry
 nobody = record { worker = 0; act = 0; key = 0; length = 0 }
+
+-- an entry as the code reads it
+abbrev read : List (List ℕ) → ℕ → Entry
+read chunks k = given (first_entry (get_or chunks k []))
 
 -- no more times pass than there are
 passing_few : (test : ℕ → Bool) (now : ℕ) → length (passing test now) ≤ now
@@ -162,13 +167,6 @@ module _ (workers nodes : ℕ) (schedule lent lent_waits : List ℕ) where
       abbrev next : Entry
       next = entry r done
 
-      abbrev read : Entry
-      read = entry_from schedule (entry_width * done)
-
-      next_is : next ≡ read
-      unfolding entry_at
-      next_is = rw sub-one (entry_at_lem schedule done nobody (omega (arith, entries_quotient schedule)))
-
       -- the counts have room, and the arena after it is in order
       roomy : length schedule ≤ 16000 → Roomy book
       roomy few =
@@ -213,21 +211,26 @@ module _ (workers nodes : ℕ) (schedule lent lent_waits : List ℕ) where
                 (λ waits. omega (arith, passing_fit r (waiting_at r) is_turn (turns_then r) (suc done) more)));
           }
 
-      -- in the words of the code
-      pub may_enter : length schedule ≤ 16000 → Roomy book × InOrder (after words read)
-      may_enter few = (roomy few, subst (λ x. InOrder (after words x)) next_is in_order)
+      -- in the words of the code, which goes through the chunks
+      next_is : (chunks : List (List ℕ)) → entries chunks ≡ entries_of schedule → next ≡ read chunks done
+      unfolding entry_at
+      next_is chunks each = rw (sub-one, ← each) (get_or-map (λ words. given (first_entry words)) chunks done [])
 
-      pub entered : call_width * count_in is_operation (entries_of schedule) ≤ length lent →
+      pub may_enter : (chunks : List (List ℕ)) → entries chunks ≡ entries_of schedule → length schedule ≤ 16000 →
+          Roomy book × InOrder (after words (read chunks done))
+      may_enter chunks each few = (roomy few, subst (λ x. InOrder (after words x)) (next_is chunks each) in_order)
+
+      pub entered : (chunks : List (List ℕ)) → entries chunks ≡ entries_of schedule → call_width * count_in is_operation (entries_of schedule) ≤ length lent →
           wait_width * count_in is_turn (entries_of schedule) ≤ length lent_waits → {words' history' waits' : List ℕ} {book' : Book} →
-          words' ≡ after words read → history' ≡ calls_after words (done + 1) read book history →
-          waits' ≡ waits_after words (done + 1) read book waits →
-          book' ≡ book_after words (done + 1) read book → Running (done + 1) book' words' history' waits'
-      entered room wait_room w h v b =
+          words' ≡ after words (read chunks done) → history' ≡ calls_after words (done + 1) (read chunks done) book history →
+          waits' ≡ waits_after words (done + 1) (read chunks done) book waits →
+          book' ≡ book_after words (done + 1) (read chunks done) book → Running (done + 1) book' words' history' waits'
+      entered chunks each room wait_room w h v b =
           rw (w, h, v, b, add-one)
           (subst
           (λ x. Running (suc done) (book_after words (suc done) x book) (after words x) (calls_after words (suc done) x book history)
           (waits_after words (suc done) x book waits))
-          next_is (goes_on room wait_room))
+          (next_is chunks each) (goes_on room wait_room))
 
   -- at the end
   module _ {book : Book} {words history waits : List ℕ} (end : Running (length (entries_of schedule)) book words history waits) where

@@ -118,16 +118,14 @@ fn run_entries(
     // The counts are good and the words enough, so it is accepted.
     let _ = arena::init(arena, layout::LAYOUT_2, workers, nodes);
     let mut book = Book::new();
-    let count = schedule.len() / Entry::WIDTH;
-    // by number: `chunks_exact` with `enumerate` was tried, and takes some 3 instructions of 250 more an entry
-    for done in 0..count {
-        let at = Entry::WIDTH * done;
+    let entries = Entry::all(schedule);
+    for (done, words) in entries.iter().enumerate() {
         let time = (done + 1) as u16;
-        let entry = Entry::first(&schedule[at..at + Entry::WIDTH]);
+        let entry = Entry::first(words);
         book = entries::enter(arena, history, waits, book, time, entry);
     }
     Totals {
-        entries: count as u16,
+        entries: entries.len() as u16,
         refused: book.refused,
         waits: book.waits,
         calls: book.calls,

@@ -1,5 +1,5 @@
 -- What holds between two entries begins with the fresh arena, and at the end it says what the run leaves.
-use Rattle.std.proofs.Common.{◌≡◌, ◌+◌, ◌-◌, ◌*◌, ◌<◌, length, subst, arith}
+use Rattle.std.proofs.Common.{◌≡◌, ◌<◌, length, subst, ◌∙◌, arith}
 use Rattle.schedule.specs.Run.{entries_of}
 use Rattle.schedule.proofs.EntryLaws.{entries_quotient}
 use Rattle.schedule.proofs.Running.{Running, begins, may_enter, entered, history_end, waits_end, totals_end}
@@ -15,30 +15,27 @@ loop-done-init c =
 pub enter-book-requires : goal.enter-book-requires
 enter-book-requires c =
     let args = c.args in
-    let loop = c.loop-done in
-    let there : loop.done < length (entries_of args.schedule.now) = omega (arith, loop.auto, c.loop-done-test.true, entries_quotient args.schedule.now) in
-    let four : (4 * loop.done + 4) - 4 * loop.done ≡ 4 = omega arith in
-    let may = may_enter args.workers args.nodes args.schedule.now args.history.now args.waits.now loop.invariant there c.requires.few_entries in
-    rw (c.first-entry.ensures, four) (record { roomy = may.0; in_order = may.1 })
+    let all = c.all-entries.ensures in
+    let there : c.loop-done.done < length (entries_of args.schedule.now) = omega (arith, c.loop-done-test.true, all.count, entries_quotient args.schedule.now) in
+    let may = may_enter args.workers args.nodes args.schedule.now args.history.now args.waits.now c.loop-done.invariant there c.all-entries.result.now all.entries c.requires.few_entries in
+    rw c.first-entry.ensures (record { roomy = may.0; in_order = may.1 })
 
 pub loop-done-preserved : goal.loop-done-preserved
 loop-done-preserved c =
     let args = c.args in
-    let loop = c.loop-done in
-    let there : loop.done < length (entries_of args.schedule.now) = omega (arith, c.loop-done-test.true, entries_quotient args.schedule.now) in
-    let four : (4 * loop.done + 4) - 4 * loop.done ≡ 4 = omega arith in
+    let all = c.all-entries.ensures in
+    let there : c.loop-done.done < length (entries_of args.schedule.now) = omega (arith, c.loop-done-test.true, all.count, entries_quotient args.schedule.now) in
     let enter = c.enter-book.ensures in
-    entered args.workers args.nodes args.schedule.now args.history.now args.waits.now loop.invariant there
+    entered args.workers args.nodes args.schedule.now args.history.now args.waits.now c.loop-done.invariant there c.all-entries.result.now all.entries
     c.requires.room_for_calls c.requires.room_for_waits
-    (rw (c.first-entry.ensures, four) at enter.words) (rw (c.first-entry.ensures, four) at enter.calls)
-    (rw (c.first-entry.ensures, four) at enter.waits) (rw (c.first-entry.ensures, four) at enter.books)
+    (rw c.first-entry.ensures at enter.words) (rw c.first-entry.ensures at enter.calls) (rw c.first-entry.ensures at enter.waits) (rw c.first-entry.ensures at enter.books)
 
 pub returns : goal.returns
 returns c =
     let args = c.args in
     let loop = c.loop-done in
-    let all : loop.done ≡ length (entries_of args.schedule.now)
-    = omega (arith, loop.invariant.past, entries_quotient args.schedule.now, c.loop-done-test.false) in
+    let count : length c.all-entries.result.now ≡ length (entries_of args.schedule.now) = c.all-entries.ensures.count ∙ entries_quotient args.schedule.now in
+    let all : loop.done ≡ length (entries_of args.schedule.now) = omega (arith, loop.invariant.past, count, c.loop-done-test.false) in
     let end =
     subst
     (λ done. Running args.workers args.nodes args.schedule.now args.history.now args.waits.now done
@@ -47,6 +44,5 @@ returns c =
       words = end.arena_is;
       calls = history_end args.workers args.nodes args.schedule.now args.history.now args.waits.now end;
       waits = waits_end args.workers args.nodes args.schedule.now args.history.now args.waits.now end;
-      totals = rw (entries_quotient args.schedule.now)
-          (totals_end args.workers args.nodes args.schedule.now args.history.now args.waits.now end);
+      totals = rw count (totals_end args.workers args.nodes args.schedule.now args.history.now args.waits.now end);
     }
