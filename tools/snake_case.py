@@ -2,7 +2,7 @@
 """Brings the repository's own names in specs/ and proofs/ to snake case, as the installed Rattle spells words: `nodeFrom` and `node-from`
 become `node_from`. Types, modules, constructors of the source, functions of src/, strings and names of the library keep their spelling.
 
-usage: tools/snake_case.py [--say]      at the top of the repository, once, after /opt/rattle/port/port.py; --say only lists what would be renamed
+usage: tools/snake_case.py [--say]      at the top of the repository, once, after the kit's port.py; --say only lists what would be renamed
 """
 
 import collections
