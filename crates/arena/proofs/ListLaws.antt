@@ -1,14 +1,12 @@
--- Laws of lists: those that pass a test, mapped ones, and those in which every two elements are related.
-use Prim.Native.Nat.{suc, ◌≤◌}
-use mathlib.Core.Path.{◌≡◌, refl, ap}
+-- Laws of lists: of what passes a test, and of lists in which every two elements are related.
+use mathlib.Core.Path.{◌≡◌, refl}
 use mathlib.Core.Logic.{◌⊎◌, inl, inr, ⊎_elim}
 use mathlib.Core.List.Memᴰ
 use mathlib.Core.List.{List, [], ◌∷◌, Memᴰ, map}
 use mathlib.Core.Bool.{Bool, true, false, cond}
 use mathlib.Mathlib.Data.Bool.Basic.{dichotomy}
-use native.Mathlib.Omega.{arith}
-use lib.ListN.{length}
-use Rattle.arena.specs.Lists.{filter, Each, none, ◌and◌, Pairs, alone, ◌ahead◌}
+use Rattle.std.specs.List.{filter}
+use Rattle.arena.specs.Lists.{Each, none, ◌and◌, Pairs, alone, ◌ahead◌}
 
 module _ {A : Type 0} where
   -- a list with one more in front or not holds what it did, and nothing else but that one
@@ -20,42 +18,17 @@ module _ {A : Type 0} where
   from_front true m = ⊎_elim (λ same. inl (same, refl)) inr (Memᴰ.cases_cons m)
   from_front false m = inr m
 
--- no more pass a test than there are
-pub filter_shorter : {A : Type 0} (test : A → Bool) (xs : List A) → length (filter test xs) ≤ length xs
-unfolding filter
-filter_shorter test [] = omega arith
-filter_shorter {A} test (x ∷ xs) = go (test x) (filter_shorter test xs)
-  where
-    go : (passes : Bool) → length (filter test xs) ≤ length xs →
-        length (cond passes (x ∷ filter test xs) (filter test xs)) ≤ suc (length xs)
-    go true few = omega arith
-    go false few = omega arith
-
 -- what passes a test is what is in the list and passes
 pub in_filter : {A : Type 0} (test : A → Bool) {x : A} {xs : List A} → Memᴰ x xs → test x ≡ true → Memᴰ x (filter test xs)
-unfolding filter
 in_filter test (Memᴰ.head same) e = rw (rw same at e) (Memᴰ.head same)
 in_filter test (Memᴰ.tail {x = other} m) e = in_front other (test other) (in_filter test m e)
 
 pub from_filter : {A : Type 0} (test : A → Bool) {x : A} {xs : List A} → Memᴰ x (filter test xs) → Memᴰ x xs × (test x ≡ true)
-unfolding filter
 from_filter test {xs = []} m = absurd (Memᴰ.not-nil m)
 from_filter test {xs = other ∷ xs} m =
     ⊎_elim (λ here. (Memᴰ.head here.0, rw here.0 here.1))
     (λ there. let later = from_filter test there in (Memᴰ.tail later.0, later.1))
     (from_front (test other) m)
-
--- what is in a mapped list is mapped from something in the list
-pub in_map : {A B : Type 0} (f : A → B) {x : A} {xs : List A} → Memᴰ x xs → Memᴰ (f x) (map f xs)
-in_map f (Memᴰ.head same) = Memᴰ.head (ap f same)
-in_map f (Memᴰ.tail m) = Memᴰ.tail (in_map f m)
-
-pub from_map : {A B : Type 0} (f : A → B) {y : B} {xs : List A} → Memᴰ y (map f xs) → (x : A) × Memᴰ x xs × (y ≡ f x)
-from_map f {xs = []} m = absurd (Memᴰ.not-nil m)
-from_map f {xs = x ∷ xs} m =
-    ⊎_elim (λ same. (x, Memᴰ.head refl, same))
-    (λ there. let later = from_map f there in (later.0, Memᴰ.tail later.1, later.2))
-    (Memᴰ.cases_cons m)
 
 -- every element is whatever is in the list
 pub each_in : {A : Type 0} {P : A → Type 0} {x : A} {xs : List A} → Each P xs → Memᴰ x xs → P x
@@ -68,7 +41,6 @@ each_of (x ∷ xs) holds = holds x (Memᴰ.head refl) and each_of xs (λ y m. ho
 
 -- what holds of every two still does of those that pass a test
 pub pairs_filter : {A : Type 0} {R : A → A → Type 0} (test : A → Bool) {xs : List A} → Pairs R xs → Pairs R (filter test xs)
-unfolding filter
 pairs_filter test alone = alone
 pairs_filter test (◌ahead◌ {x} each pairs) =
     ⊎_elim (λ fails. rw fails (pairs_filter test pairs))
@@ -80,7 +52,7 @@ pub pairs_map : {A B : Type 0} (f : A → B) {R : B → B → Type 0} {xs : List
 pairs_map f alone = alone
 pairs_map f {R} (◌ahead◌ {x} {xs} each pairs) =
     let values : Each (R (f x)) (map f xs) =
-    each_of (map f xs) (λ y m. let found = from_map f m in rw found.2 (each_in each found.1)) in
+    each_of (map f xs) (λ y m. let found = Memᴰ.of_map f xs m in rw (← found.2) (each_in each found.1)) in
     values ahead pairs_map f pairs
 
 -- a relation that follows from another, between elements of which something holds

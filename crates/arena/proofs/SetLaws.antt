@@ -16,7 +16,7 @@ use Rattle.words.specs.Layout.{layout_of, nodes_of, node_width, node_part}
 use Rattle.words.specs.Records.{key_at, next_at}
 use Rattle.arena.specs.Lists.{Pairs, alone, ◌ahead◌}
 use Rattle.arena.specs.Sets.{Label, Rising, member, keys_in, is_none, label_at, is_unmarked, walk, chain, chain_nodes, chain_labels, node_in, label_in, ChainWhole, set_of, OnChain, top, link, InSet}
-use Rattle.arena.proofs.ListLaws.{in_filter, from_filter, in_map, from_map, each_of, pairs_filter, pairs_map}
+use Rattle.arena.proofs.ListLaws.{in_filter, from_filter, each_of, pairs_filter, pairs_map}
 
 -- a key is a member where it is one of the keys
 pub member_key : (key : ℕ) (labels : List Label) → (member key labels ≡ true) ↔ Memᴰ key (keys_in labels)
@@ -187,7 +187,7 @@ module _ (arena : List ℕ) where
     where
       forth : Memᴰ label (set_of arena) → InSet arena label
       forth m =
-          let found = from_map (label_in arena) m in
+          let found = Memᴰ.of_map (label_in arena) _ m in
           let passed = from_filter (is_unmarked (node_width (layout_of arena)) (node_part arena)) found.1 in
           let on = walked_on (λ low. link (top (omega arith)) (λ q. omega arith) low) (whole_walked whole) passed.0 in
           let above = walked_above (whole_walked whole) passed.0 in
@@ -197,10 +197,10 @@ module _ (arena : List ℕ) where
             not_head = λ q. omega (arith, rw q at above);
             not_tail = on.1;
             unmarked = eqb-true _ _ passed.1;
-            has_label = sym found.2;
+            has_label = found.2;
           }
 
       back : InSet arena label → Memᴰ label (set_of arena)
       back s =
           let on = on_walked (whole_walked whole) s.on_chain s.not_head s.not_tail in
-          Memᴰ.cast (sym s.has_label) (in_map (label_in arena) (in_filter (is_unmarked (node_width (layout_of arena)) (node_part arena)) on (eq-eqb _ _ s.unmarked)))
+          Memᴰ.cast (sym s.has_label) (Memᴰ.map (label_in arena) (in_filter (is_unmarked (node_width (layout_of arena)) (node_part arena)) on (eq-eqb _ _ s.unmarked)))

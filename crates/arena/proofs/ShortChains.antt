@@ -6,12 +6,12 @@ use mathlib.Core.List.{List}
 use native.Mathlib.Omega.{arith}
 use native.Mathlib.Decide.{ℕ_discrete}
 use lib.ListN.{length, length-map}
+use Rattle.std.proofs.lemmas.List.Sums.{length-filter, count_by-le-length}
 use Rattle.worker.specs.Node.{head}
 use Rattle.words.specs.Layout.{layout_of, nodes_of, node_width, node_part}
 use Rattle.words.specs.Records.{key_at}
 use Rattle.arena.specs.Sets.{is_unmarked, chain_nodes, chain_labels, set_of}
 use Rattle.arena.specs.Snapshot.{chain_keys, keys_of}
-use Rattle.arena.proofs.ListLaws.{filter_shorter}
 use Rattle.arena.proofs.SetLaws.{Walked, ended, passed, or_empty, chain_walked}
 
 module _ (key : ℕ → ℕ) where
@@ -66,7 +66,7 @@ module _ (width : ℕ) (nodes : List ℕ) (count : ℕ) where
 
   pub chain_few : length (chain_keys width nodes count) ≤ count - 2
   unfolding chain_keys chain_labels
-  chain_few = rw (length-map, length-map) (omega (arith, nodes_few, filter_shorter (is_unmarked width nodes) (chain_nodes width nodes count)))
+  chain_few = rw (length-map, length-map) (omega (arith, nodes_few, length-filter (is_unmarked width nodes) (chain_nodes width nodes count), count_by-le-length (is_unmarked width nodes) (chain_nodes width nodes count)))
 
 -- so has an arena's set
 pub keys_few : (arena : List ℕ) → length (keys_of arena) ≤ nodes_of arena - 2

@@ -20,7 +20,6 @@ use Rattle.worker.specs.declared.refusal.Refusal.TheVariants.{BrokenChain, NoRoo
 use Rattle.words.specs.Records.{node_at, key_at, next_at}
 use Rattle.words.specs.Replies.{accepted, refusing, replied}
 use Rattle.words.proofs.Judged.{none_holds, given_values, refused_first, accepted_first}
-use Rattle.arena.specs.Lists.{filter}
 use Rattle.arena.specs.Sets.{keys_in, is_none, is_unmarked, labels_at, walk, chain, chain_nodes, chain_labels}
 use Rattle.arena.specs.Snapshot.{chain_keys, chain_broken, chain_too_long, chain_refusals}
 use Rattle.arena.proofs.ShortChains.{chain_few}
@@ -39,7 +38,6 @@ module _ (width : ℕ) (nodes : List ℕ) (count : ℕ) where
   gathered_on : (many node : ℕ) (row : List ℕ) (onward : Option (List ℕ)) (unmarked : Bool) → is_unmarked width nodes node ≡ unmarked →
       gathered many row (map (λ rest. node ∷ rest) onward)
       ≡ gathered (cond unmarked (many + 1) many) (cond unmarked (set row many (key_at width nodes node)) row) onward
-  unfolding filter
   gathered_on many node row none unmarked e = refl
   gathered_on many node row (some places) true e = rw (e, add-one, suc-add, add-suc)
   gathered_on many node row (some places) false e = rw e
@@ -47,7 +45,7 @@ module _ (width : ℕ) (nodes : List ℕ) (count : ℕ) where
   -- a walk with steps left, at Tail, at a break, and at a node that it passes
   module _ (many last node : ℕ) (row : List ℕ) where
     pub walk_end : (steps : ℕ) → 0 < steps → node ≡ tail → gathered many row (walk width nodes count steps last node) ≡ some (many, row)
-    unfolding walk filter
+    unfolding walk
     walk_end zero left t = absurd (omega arith)
     walk_end (suc steps) left t = rw (eq-eqb _ _ t, add-zero)
 

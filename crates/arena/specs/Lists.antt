@@ -1,9 +1,5 @@
--- Lists: those that pass a test, and lists in which every two are related.
-use Rattle.std.specs.Prelude.{List, [], ◌∷◌, Bool, cond}
-
-unfoldable pub filter : {A : Type 0} → (A → Bool) → List A → List A
-filter test [] = []
-filter test (x ∷ xs) = let others = filter test xs in cond (test x) (x ∷ others) others
+-- Lists of whose elements something holds, and lists in which every two are related.
+use Rattle.std.specs.Prelude.{List, [], ◌∷◌}
 
 -- what holds of every element of a list
 infixr 5 ◌and◌

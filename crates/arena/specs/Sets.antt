@@ -1,13 +1,14 @@
 -- The chain of an arena, and its set (document 01: the keys of unmarked nodes on the chain, Head and Tail left out; document 02, A2: each
 -- with its length). A snapshot lists the keys of this set (document 02, A3), and demand 3 speaks of it.
 use Rattle.std.specs.Prelude.{ℕ, zero, suc, ◌<◌, ◌≡◌, ◌≢◌, List, [], ◌∷◌, map, Bool, true, false, cond, ◌&&◌, ◌||◌, ltb, eqb}
+use Rattle.std.specs.List.{filter}
 use Rattle.std.proofs.Math.Option
 use Rattle.std.proofs.Math.Option.{Option, none, some, get_or}
 use Rattle.worker.specs.Node.{head, tail}
 use Rattle.worker.specs.declared.Node.{Node}
 use Rattle.words.specs.Layout.{layout_of, nodes_of, node_width, node_part}
 use Rattle.words.specs.Records.{node_at, key_at, next_at}
-use Rattle.arena.specs.Lists.{filter, Pairs}
+use Rattle.arena.specs.Lists.{Pairs}
 
 -- a label: its key, and its length, which is 0 where nodes have none
 pub record Label : Type 0 where

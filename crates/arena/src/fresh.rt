@@ -42,7 +42,8 @@ pub(crate) fn write_fresh(arena: &mut [u16], counts: Counts)
     );
 }
 
-// Eight words, which the header has and a worker's record. Parts of one length, so that no word is tested for room.
+// Eight words, which the header has and a worker's record. Parts of one length, so that no word is tested for room; not by `copy_from_slice`,
+// which tests whether the two overlap: init took a seventh longer.
 fn write_record(arena: &mut [u16], at: usize, values: &[u16; 8])
     requires { at + 8 ≤ length arena.old }
     ensures { arena.new ≡ sets arena.old at values.now }
@@ -62,7 +63,8 @@ fn write_workers(arena: &mut [u16], workers: u16)
     }
 }
 
-// Head, Tail and the unused nodes: every word is 0, but for Head's next, Tail's key and Tail's next.
+// Head, Tail and the unused nodes: every word is 0, but for Head's next, Tail's key and Tail's next. `Nodes` lends words to be read, and these
+// are written.
 fn write_nodes(nodes: &mut [u16], width: u16, count: u16)
     requires { (4 ≤ width) × (width ≤ 5) × (2 ≤ count) × (length nodes.old ≡ width * count) }
     ensures { nodes.new ≡ fresh_nodes width count }

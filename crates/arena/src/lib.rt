@@ -24,7 +24,8 @@ pub fn init(arena: &mut [u16], layout: u16, workers: u16, nodes: u16) -> Result<
     Ok(())
 }
 
-// Starts a call on a worker; an add on an arena of layout 2 carries the length of its label, every other call 0.
+// Starts a call on a worker; an add on an arena of layout 2 carries the length of its label, every other call 0. By document 01's numbers, any
+// of which may be asked for.
 #[tactic(auto, unfolding(crate::specs::Start::start_answer, crate::specs::Start::start_arena))]
 pub fn start(
     arena: &mut [u16],

@@ -2,10 +2,11 @@
 use Rattle.std.proofs.Common.{◌≡◌, ℕ, List, [], ◌∷◌, map, Option, Some, None, refl}
 use Rattle.std.specs.Prelude.{codes}
 use Prim.Native.String.{String}
+use Rattle.words.specs.Entries.{entry_of}
 use Rattle.bench_input.specs.Bytes.{parts}
 use Rattle.bench_input.specs.Numbers.{digits_value, number_of}
 use Rattle.bench_input.specs.Lines.{turn_line, command_line, long_line, line_of}
-use Rattle.bench_input.specs.Input.{entry, Reading, planned, bad_line, new_entries, good_board, lines_from, reading_of}
+use Rattle.bench_input.specs.Input.{Reading, planned, bad_line, new_entries, good_board, lines_from, reading_of}
 
 -- the number of the bad line of an input, if there is one
 abbrev verdict : Reading → Option ℕ
@@ -64,6 +65,6 @@ verdicts = refl
 
 -- entries are those of the good lines before the first bad one
 entries : reading_of (codes "board 2 3\nadd 0 5 9\nturn 1 2\nremove 0 7\nadd 1 07 1\n") ≡
-    bad_line 5 (entry 0 1 5 9 ∷ entry 1 0 0 0 ∷ entry 1 0 0 0 ∷ entry 0 2 7 0 ∷ [])
+    bad_line 5 (entry_of 0 1 5 9 ∷ entry_of 1 0 0 0 ∷ entry_of 1 0 0 0 ∷ entry_of 0 2 7 0 ∷ [])
 unfolding parts digits_value number_of turn_line command_line long_line line_of new_entries good_board lines_from reading_of
 entries = refl

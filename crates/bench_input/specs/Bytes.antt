@@ -1,11 +1,6 @@
 -- Bytes, and a text taken apart at a byte.
-use Rattle.std.specs.Prelude.{ℕ, List, codes, ◌==◌}
+use Rattle.std.specs.Prelude.{ℕ, List, ◌==◌}
 use Rattle.std.specs.List.{slice_split}
-use Prim.Native.String.{String}
-
--- the bytes of a word in quotes
-abbrev pub bytes_of : String → List ℕ
-bytes_of word = codes word
 
 -- LF, which ends a line
 abbrev pub line_feed : ℕ

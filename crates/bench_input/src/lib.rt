@@ -6,9 +6,9 @@ mod input;
 mod lines;
 mod numbers;
 
-pub use input::{ENTRY_WIDTH, parse};
+pub use input::parse;
 
-// What a good input says: document 01's W and N, and how many entries its schedule has.
+// What a good input says: document 01's W and N, numbers as the run is given them, and how many entries its schedule has.
 #[derive(Clone, Copy, Debug, PartialEq, Eq, Hash)]
 pub struct Plan {
     pub workers: u16,

@@ -1,28 +1,21 @@
 // A line of the input, without its LF.
 ghost use Rattle.std.specs.Prelude.{◌≡◌};
+ghost use Rattle.words.specs.Entries.{entry_of};
 ghost use Rattle.bench_input.specs.Lines.{turn_line, command_line, long_line, line_of};
 
 use crate::bytes::{SPACE, split_once};
 use crate::numbers::number_of;
+use words::Entry;
 use worker::Worker;
 
 // What a good line says: the counts of line 1, or so many equal entries of the schedule.
 #[derive(Clone, Copy)]
 pub(crate) enum Line {
     Board(u16, u16),
-    Entries {
-        worker: u16,
-        act: u16,
-        key: u16,
-        length: u16,
-        count: u16,
-    },
+    Entries(Entry, u16),
 }
 
-pub(crate) const MOST_ENTRIES: u16 = 4000;
-
-// The act of a turn, as a word of the schedule.
-const TURN: u16 = 0;
+pub(crate) const MOST_ENTRIES: u16 = Entry::MOST as u16;
 
 // A word, and two numbers or three. With a fifth field the third text has a space in it, and is no number.
 #[tactic(auto, unfolding(crate::specs::Lines::line_of))]
@@ -63,27 +56,28 @@ fn long_line(word: &[u8], a: u16, b: u16, c: u16) -> Option<Line>
 }
 
 fn one_entry(worker: u16, act: u16, key: u16, length: u16) -> Line
-    ensures { result ≡ Line.Entries worker act key length 1 }
+    ensures { result ≡ Line.Entries (entry_of worker act key length) 1 }
 {
-    Line::Entries {
+    let entry = Entry {
         worker,
         act,
         key,
         length,
-        count: 1,
-    }
+    };
+    Line::Entries(entry, 1)
 }
 
 #[tactic(auto, unfolding(crate::specs::Lines::turn_line))]
 fn turn_line(worker: u16, count: u16) -> Option<Line>
     ensures { result ≡ turn_line worker count }
 {
-    let turns = Line::Entries {
+    let entry = Entry {
         worker,
-        act: TURN,
+        act: Entry::TURN,
         key: 0,
         length: 0,
-        count,
     };
-    (1..=MOST_ENTRIES).contains(&count).then_some(turns)
+    (1..=MOST_ENTRIES)
+        .contains(&count)
+        .then_some(Line::Entries(entry, count))
 }

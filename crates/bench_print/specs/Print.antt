@@ -1,5 +1,5 @@
 -- What the bench program prints, as bytes, and where it stands in an output.
-use Rattle.std.specs.Prelude.{ℕ, ◌+◌, ◌/◌, ◌%◌, min, max, ◌≡◌, cond, length, leb, eqb}
+use Rattle.std.specs.Prelude.{ℕ, ◌+◌, ◌/◌, ◌%◌, min, max, ◌≡◌, cond, length, leb, eqb, codes}
 use Prim.Native.String.{String}
 use Rattle.std.specs.List.{flat_map}
 use mathlib.Core.List.{List, [], ◌∷◌, ◌++◌}
@@ -11,7 +11,6 @@ use Rattle.schedule.specs.declared.Totals.{Totals}
 use Rattle.bench_print.specs.declared.Output.{Output}
 use Rattle.bench_print.specs.declared.Part.{Part}
 use Rattle.bench_print.specs.declared.Part.TheVariants as part
-use Rattle.bench_input.specs.Bytes.{bytes_of}
 use Rattle.bench_input.specs.Numbers.{digit_zero}
 
 -- the place behind so many bytes: at most the end of the output, whose length is `room`; a place past the end stays
@@ -42,7 +41,7 @@ decimal n = digit_at 10000 n ++ digit_at 1000 n ++ digit_at 100 n ++ digit_at 10
 
 -- a word with a number behind it
 abbrev pub labelled : String → ℕ → List ℕ
-labelled word n = bytes_of word ++ decimal n
+labelled word n = codes word ++ decimal n
 
 -- the parts of a line: texts, and numbers behind texts
 abbrev pub part_text : Part → List ℕ
@@ -51,11 +50,11 @@ part_text (part.Labelled text n) = text.now ++ decimal n
 
 -- `bad line L`
 unfoldable pub bad_line_text : ℕ → List ℕ
-bad_line_text line = labelled "bad line " line ++ bytes_of "\n"
+bad_line_text line = labelled "bad line " line ++ codes "\n"
 
 -- `refused 8`
 unfoldable pub refused_text : ℕ → List ℕ
-refused_text number = labelled "refused " number ++ bytes_of "\n"
+refused_text number = labelled "refused " number ++ codes "\n"
 
 -- the totals
 unfoldable pub totals_text : Totals → List ℕ
@@ -64,18 +63,18 @@ totals_text totals =
     ++ labelled " refused " totals.refused
     ++ labelled " waits " totals.waits
     ++ labelled " calls " totals.calls
-    ++ bytes_of "\n"
+    ++ codes "\n"
 
 -- operations, behind a space: 1 add, 2 remove, 3 contains
 unfoldable pub operation_text : ℕ → List ℕ
 operation_text operation =
-    cond (eqb operation add) (bytes_of " add") (cond (eqb operation remove) (bytes_of " remove") (bytes_of " contains"))
+    cond (eqb operation add) (codes " add") (cond (eqb operation remove) (codes " remove") (codes " contains"))
 
 -- answers, behind a space: 1 yes, 2 no, 3 full, or `open` where the answer is 0
 unfoldable pub answer_text : ℕ → List ℕ
 answer_text answer =
-    cond (eqb answer 0) (bytes_of " open")
-    (cond (eqb answer 1) (bytes_of " yes") (cond (eqb answer 2) (bytes_of " no") (bytes_of " full")))
+    cond (eqb answer 0) (codes " open")
+    (cond (eqb answer 1) (codes " yes") (cond (eqb answer 2) (codes " no") (codes " full")))
 
 -- a record: worker, operation, key, start, point, finish, answer
 unfoldable pub call_text : Call → List ℕ
@@ -87,12 +86,12 @@ call_text call =
     ++ labelled " " call.point
     ++ labelled " " call.finish
     ++ answer_text call.answer
-    ++ bytes_of "\n"
+    ++ codes "\n"
 
 -- a wait: its moment, the node wanted, and the worker in the way
 unfoldable pub wait_text : Wait → List ℕ
 wait_text wait =
-    labelled "wait " wait.time ++ labelled " " wait.node ++ labelled " " wait.worker ++ bytes_of "\n"
+    labelled "wait " wait.time ++ labelled " " wait.node ++ labelled " " wait.worker ++ codes "\n"
 
 -- keys, each behind a space
 abbrev pub keys_text : List ℕ → List ℕ
@@ -100,4 +99,4 @@ keys_text = flat_map (labelled " ")
 
 -- the roll
 unfoldable pub roll_text : List ℕ → List ℕ
-roll_text keys = bytes_of "roll" ++ keys_text keys ++ bytes_of "\n"
+roll_text keys = codes "roll" ++ keys_text keys ++ codes "\n"

@@ -10,9 +10,10 @@ ghost use Rattle.bench_print.specs.Print.{bad_line_text, refused_text, totals_te
 ghost use Rattle.bench_print.specs.Print.{operation_text, answer_text, call_text, wait_text, roll_text};
 
 use schedule::{Call, Totals, Wait};
-use worker::Worker;
+use worker::{Answer, Worker};
 
-// A lent output: its first `len` bytes are printed. Past its end nothing is written, and `len` stays.
+// A lent output: its first `len` bytes are printed, which is told beside them as there is no heap. Past its end nothing is written, and `len`
+// stays.
 #[derive(Drop)]
 pub struct Output<'a> {
     bytes: &'a mut [u8],
@@ -27,12 +28,13 @@ enum Part<'a> {
 }
 
 impl<'a> Output<'a> {
-    pub fn new(bytes: &'a mut [u8]) -> Output<'a>
+    // An output of which so many bytes are printed.
+    pub fn new(bytes: &'a mut [u8], len: usize) -> Output<'a>
         ensures same_reference { result.bytes.ghost_name ≡ bytes.entry.ghost_name }
         ensures bytes { result.bytes.now ≡ bytes.old }
-        ensures len { result.len ≡ 0 }
+        ensures len { result.len ≡ len }
     {
-        Output { bytes, len: 0 }
+        Output { bytes, len }
     }
 
     // The number of bytes printed.
@@ -49,6 +51,7 @@ impl<'a> Output<'a> {
         self.print_parts(&[Part::Labelled("bad line ", line), Part::Text("\n")]);
     }
 
+    // By its number, of which any can be printed: to take a `Refusal` would ask more.
     #[tactic(auto, unfolding(crate::specs::Print::refused_text))]
     pub fn print_refused(&mut self, number: u16)
         ensures { Prints (refused_text number) self.old self.new }
@@ -164,10 +167,12 @@ fn operation_word(operation: u16) -> &'static str
 fn answer_word(answer: u16) -> &'static str
     ensures { result.now ≡ answer_text answer }
 {
-    match answer {
-        0 => " open",
-        1 => " yes",
-        2 => " no",
-        _ => " full",
+    if answer == 0 {
+        return " open";
+    }
+    match Answer::from(answer) {
+        Answer::Yes => " yes",
+        Answer::No => " no",
+        Answer::Full => " full",
     }
 }

@@ -1,7 +1,7 @@
 -- No output is longer than the words that the bench program has for it.
 use Prim.Native.Nat.{ℕ, suc, ◌+◌, ◌*◌, ◌≤◌}
 use mathlib.Core.Path.{◌≡◌, refl}
-use mathlib.Core.List.{List, [], ◌∷◌, flatten}
+use mathlib.Core.List.{List, [], ◌∷◌}
 use Rattle.std.specs.List.{filter, flat_map}
 use Rattle.std.proofs.lemmas.List.Filters.{length-filter_both}
 use mathlib.Core.Bool.{Bool, not}
@@ -19,15 +19,17 @@ use Rattle.words.proofs.Judged.{numbered, judged_numbered, judged_accepted}
 use Rattle.arena.specs.Init.{fresh_words}
 use Rattle.arena.specs.Snapshot.{keys_of}
 use Rattle.arena.proofs.ShortChains.{keys_few}
-use Rattle.arena.specs.Lists as lists
-use Rattle.linear.specs.Entries.{Entry, is_turn}
+use Rattle.linear.specs.Entries.{is_turn}
 use Rattle.linear.specs.History.{totals}
 use Rattle.linear.proofs.Timeline.{fresh_schedule, Schedule, last, arena, sound}
 use Rattle.schedule.specs.declared.Call.{Call}
 use Rattle.schedule.specs.declared.Wait.{Wait}
 use Rattle.schedule.specs.declared.Totals.{Totals}
-use Rattle.schedule.specs.Run.{entries_of, is_operation, count_in, run_refusals, records_of, waits_of, totals_of}
-use Rattle.schedule.proofs.EntryLaws.{entries_quotient}
+use Rattle.schedule.specs.Run.{is_operation, count_in, run_refusals, records_of, waits_of, totals_of}
+use Rattle.words.proofs.EntryLaws.{entries_quotient}
+use Rattle.words.specs.Flat.{flat_words}
+use Rattle.words.specs.Entries.{entry_words, entries_of}
+use Rattle.words.specs.declared.entry.Entry.{Entry}
 use Rattle.schedule.proofs.HistoryLaws.{Accepted, run_passed}
 use Rattle.schedule.proofs.Running.{calls_few, waits_few}
 use Rattle.bench_input.specs.Input.{Reading, planned, bad_line, reading_of}
@@ -112,7 +114,7 @@ calls_short waits calls =
 
 -- an entry is a start or a turn, and not both
 parted : (entries : List Entry) → count_in is_operation entries + count_in is_turn entries ≤ length entries
-unfolding count_in lists.filter
+unfolding count_in
 parted [] = omega arith
 parted (entry ∷ entries) = grind (arith, nat_tests, parted entries)
 
@@ -174,7 +176,7 @@ unfolding output_of
 output_fits input = go (reading_of input)
   where
     go : (o : Reading) → length (reading_text o) ≤ 131072
-    go (planned workers nodes entries) = schedule_short workers nodes (flatten entries)
+    go (planned workers nodes entries) = schedule_short workers nodes (flat_words entry_words entries)
     go (bad_line line entries) = omega (arith, bad_line_short line)
 
 -- so with that much room the bytes that are printed are the whole output

@@ -1,7 +1,7 @@
 -- What a run answers and leaves, as the parts of the text that is printed of it.
 use Prim.Native.Nat.{ℕ, zero, suc, ◌*◌, ◌%◌, ◌≤◌}
 use mathlib.Core.Path.{◌≡◌, refl, sym, ap, ◌∙◌}
-use mathlib.Core.List.{List, [], ◌∷◌, ◌++◌, flatten}
+use mathlib.Core.List.{List, [], ◌∷◌, ◌++◌}
 use mathlib.Core.Bool.{Bool, true, false, cond}
 use native.Mathlib.Omega.{arith}
 use lib.ListN.{length, take, drop, replicate, length-replicate}
@@ -20,26 +20,30 @@ use Rattle.words.specs.Records.{with_worker}
 use Rattle.words.specs.Replies.{refused, accepted, refusing, reply, replied}
 use Rattle.words.proofs.Bounds.{counts}
 use Rattle.words.proofs.Judged.{judged_refused, judged_accepted, given_values}
+use Rattle.words.specs.Flat.{flat_words}
+use Rattle.words.specs.Entries.{entries_of, entry_width, entry_words, entry_laws, most_entries}
+use Rattle.words.proofs.FlatLaws.{flat_length}
+use Rattle.words.specs.declared.entry.Entry.{Entry}
 use Rattle.arena.specs.Init.{fresh_words}
 use Rattle.arena.specs.Start.{start_refusals, start_arena}
 use Rattle.arena.specs.Snapshot.{keys_of, Listed}
 use Rattle.arena.proofs.FreshLaws.{fresh_length}
 use Rattle.lazy.specs.Turn.{turn_on, turned_arena, turn_arena}
-use Rattle.linear.specs.Entries.{Entry, is_turn, after}
+use Rattle.linear.specs.Entries.{is_turn, after}
 use Rattle.linear.specs.History.{arena_at, totals}
 use Rattle.linear.proofs.Words.{effect_long}
 use Rattle.linear.proofs.Timeline.{fresh_schedule, Schedule, last, arena, entry}
 use Rattle.schedule.specs.declared.Call.{Call}
 use Rattle.schedule.specs.declared.Wait.{Wait}
 use Rattle.schedule.specs.declared.Totals.{Totals}
-use Rattle.schedule.specs.Run.{entries_of, is_operation, count_in, is_bad_schedule, run_refusals, run_answer, run_arena, row_after, run_records, run_waits, records_of, waits_of, totals_of, totals_values}
+use Rattle.schedule.specs.Run.{is_operation, count_in, is_bad_schedule, run_refusals, run_answer, run_arena, row_after, run_records, run_waits, records_of, waits_of, totals_of, totals_values}
 use Rattle.schedule.proofs.HistoryLaws.{Accepted, run_passed, told_calls, told_waits}
 use Rattle.schedule.proofs.Running.{calls_few, waits_few}
 use Rattle.history.specs.Rows.{no_call, no_wait}
 use Rattle.bench_input.specs.declared.BadLine.{BadLine}
 use Rattle.bench_input.specs.declared.Plan.{Plan}
-use Rattle.bench_input.specs.Input.{entry_width, Reading, planned, bad_line, reading_of, parsed_of, scheduled}
-use Rattle.bench_input.proofs.PlanLaws.{Fits, planned_sound, planned_words}
+use Rattle.bench_input.specs.Input.{Reading, planned, bad_line, reading_of, parsed_of, scheduled}
+use Rattle.bench_input.proofs.PlanLaws.{planned_sound, planned_words}
 use Rattle.bench_print.specs.Print.{bad_line_text, refused_text, totals_text, roll_text}
 use Rattle.bench_run.proofs.RollLaws.{roll_fits}
 use Rattle.bench_run.specs.Output.{arena_words, record_count, wait_count, calls_text, run_text, schedule_text, reading_text, output_of}
@@ -178,7 +182,7 @@ module _ (input : List ℕ) where
       (written : words ≡ scheduled (replicate 16000 0) (reading_of input)) where
     -- the plan of a reading
     as_planned : (o : Reading) → Ok plan ≡ parsed_of o →
-        (entries : List (List ℕ)) × (o ≡ planned plan.workers plan.nodes entries) × (plan.entries ≡ length entries)
+        (entries : List Entry) × (o ≡ planned plan.workers plan.nodes entries) × (plan.entries ≡ length entries)
     as_planned (planned workers nodes entries) e =
         let same : plan ≡ record { workers = workers; nodes = nodes; entries = length entries } = cc in
         (entries, rw same, ap (λ (p : Plan). p.entries) same)
@@ -187,7 +191,7 @@ module _ (input : List ℕ) where
     pub plan_fits : entry_width * plan.entries ≤ 16000
     plan_fits =
         let is = as_planned (reading_of input) told in
-        omega (arith, is.2, (planned_sound input plan.workers plan.nodes is.0 is.1).1.few)
+        omega (arith, is.2, (planned_sound input plan.workers plan.nodes is.0 is.1).1)
 
     pub plan_text : schedule_text plan.workers plan.nodes (take (entry_width * plan.entries) words) ≡ output_of input
     unfolding output_of
@@ -199,11 +203,12 @@ module _ (input : List ℕ) where
         ∙ sym (ap reading_text is.1)
 
 -- of a plan the counts and the length of the schedule are good, and the arena's words are enough: only the rows may be too short
-good_plan : (entries : List (List ℕ)) → Fits entries → is_bad_schedule (flatten entries) ≡ false
+good_plan : (entries : List Entry) → length entries ≤ most_entries → is_bad_schedule (flat_words entry_words entries) ≡ false
 unfolding is_bad_schedule
-good_plan entries fits =
-    let whole_entries : length (flatten entries) % entry_width ≡ 0 = omega (arith, fits.sized) in
-    rw (whole_entries, le-ltb 16000 (length (flatten entries)) (omega (arith, fits.few, fits.sized)))
+good_plan entries few =
+    let sized = flat_length entry_laws entries in
+    let whole_entries : length (flat_words entry_words entries) % entry_width ≡ 0 = omega (arith, sized) in
+    rw (whole_entries, le-ltb 16000 (length (flat_words entry_words entries)) (omega (arith, few, sized)))
 
 wide_enough : (workers nodes : ℕ) → good_counts layout2 workers nodes ≡ true →
     ltb (length {A = ℕ} (replicate arena_words 0)) (total layout2 workers nodes) ≡ false
@@ -212,14 +217,14 @@ wide_enough workers nodes good =
     le-ltb (length {A = ℕ} (replicate arena_words 0)) (total layout2 workers nodes)
     (omega (arith, counts layout2 workers nodes good, length-replicate {A = ℕ} arena_words 0))
 
-pub only_no_room : (input : List ℕ) (workers nodes : ℕ) (entries : List (List ℕ)) → reading_of input ≡ planned workers nodes entries →
-    {number : ℕ} → refused number ≡ replied (run_refusals (replicate arena_words 0) workers nodes (flatten entries) record_count wait_count) [] →
+pub only_no_room : (input : List ℕ) (workers nodes : ℕ) (entries : List Entry) → reading_of input ≡ planned workers nodes entries →
+    {number : ℕ} → refused number ≡ replied (run_refusals (replicate arena_words 0) workers nodes (flat_words entry_words entries) record_count wait_count) [] →
     number ≡ refusal_number NoRoom
 unfolding run_refusals
 only_no_room input workers nodes entries plan {number} told =
-    let fits = planned_sound input workers nodes entries plan in
-    go (ltb record_count (count_in is_operation (entries_of (flatten entries)))) (ltb wait_count (count_in is_turn (entries_of (flatten entries))))
-    (rw (fits.0, good_plan entries fits.1, wide_enough workers nodes fits.0) at told)
+    let sound = planned_sound input workers nodes entries plan in
+    go (ltb record_count (count_in is_operation (entries_of (flat_words entry_words entries)))) (ltb wait_count (count_in is_turn (entries_of (flat_words entry_words entries))))
+    (rw (sound.0, good_plan entries sound.1, wide_enough workers nodes sound.0) at told)
   where
     go : (short few : Bool) → refused number ≡ cond short (refusing NoRoom) (cond few (refusing NoRoom) (accepted [])) → number ≡ refusal_number NoRoom
     go true few e = cc

@@ -1,13 +1,12 @@
 -- The roll of an arena that a run has left: there is room for its keys.
 use Prim.Native.Nat.{ℕ}
-use mathlib.Core.Path.{◌≡◌, ap, ◌∙◌}
+use mathlib.Core.Path.{◌≡◌, ◌∙◌}
 use mathlib.Core.List.{List, [], ◌∷◌}
 use native.Mathlib.Omega.{arith}
-use lib.ListN.{length, take, drop, replicate, length-replicate}
-use lib.Seq.{take-append_seam}
+use lib.ListN.{length, replicate, length-replicate}
 use Rattle.words.specs.Replies.{refused, accepted}
 use Rattle.words.proofs.Bounds.{counts}
-use Rattle.arena.specs.Snapshot.{keys_of, snapshot_answer, snapshot_words, Listed}
+use Rattle.arena.specs.Snapshot.{keys_of, snapshot_answer, Listed}
 use Rattle.linear.proofs.Timeline.{Schedule, arena, sound}
 use Rattle.linear.proofs.TrueSnapshots.{all_true}
 

@@ -1,15 +1,17 @@
 -- The output of the bench program (document 01: Dagmar's bench program), whole, for an input.
 use Rattle.std.specs.Prelude.{ℕ, suc, Bool, length, replicate, eqb}
 use Rattle.std.specs.List.{filter, flat_map}
-use mathlib.Core.List.{List, [], ◌∷◌, ◌++◌, flatten}
+use mathlib.Core.List.{List, [], ◌∷◌, ◌++◌}
 use Rattle.worker.specs.Refusals.{refusal_number, judged}
 use Rattle.words.specs.Layout.{layout2}
+use Rattle.words.specs.Flat.{flat_words}
+use Rattle.words.specs.Entries.{entry_words, entries_of}
 use Rattle.arena.specs.Init.{fresh_words}
 use Rattle.arena.specs.Snapshot.{keys_of}
 use Rattle.linear.specs.History.{arena_at, totals}
 use Rattle.schedule.specs.declared.Call.{Call}
 use Rattle.schedule.specs.declared.Wait.{Wait}
-use Rattle.schedule.specs.Run.{entries_of, run_refusals, records_of, waits_of, totals_of}
+use Rattle.schedule.specs.Run.{run_refusals, records_of, waits_of, totals_of}
 use Rattle.bench_input.specs.Input.{Reading, planned, bad_line, reading_of}
 use Rattle.bench_print.specs.Print.{bad_line_text, refused_text, totals_text, call_text, wait_text, roll_text}
 
@@ -53,7 +55,7 @@ schedule_text workers nodes schedule =
 
 -- `bad line L` and nothing else for a bad line
 abbrev pub reading_text : Reading → List ℕ
-reading_text (planned workers nodes entries) = schedule_text workers nodes (flatten entries)
+reading_text (planned workers nodes entries) = schedule_text workers nodes (flat_words entry_words entries)
 reading_text (bad_line line entries) = bad_line_text line
 
 unfoldable pub output_of : List ℕ → List ℕ

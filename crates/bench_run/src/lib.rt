@@ -10,14 +10,14 @@ ghost use Rattle.bench_run.specs.Output.{is_wait_of, calls_text, output_of, sche
 use bench_input::BadLine;
 use bench_print::Output;
 use schedule::{Call, Wait};
-use words::layout;
+use words::{Entry, layout};
 
 // Writes what is printed for an input, as far as there is room, and answers its length. 131,072 bytes hold every output
 // (`LengthLaws.output_whole`).
 pub fn answer(input: &[u8], output: &mut [u8]) -> usize
     ensures { Printed (output_of input.now) output.old 0 output.new result }
 {
-    let mut out = Output::new(output);
+    let mut out = Output::new(output, 0);
     print_answer(&mut out, input);
     out.len()
 }
@@ -26,11 +26,11 @@ fn print_answer(out: &mut Output, input: &[u8])
     ensures { Prints (output_of input.now) out.old out.new }
 {
     // Words of fixed length here and below: there is no heap, so that nothing can fail.
-    let mut schedule = [0u16; 16000];
+    let mut schedule = [0u16; Entry::WIDTH * Entry::MOST];
     match bench_input::parse(input, &mut schedule) {
         Err(BadLine(line)) => out.print_bad_line(line),
         Ok(plan) => {
-            let end = bench_input::ENTRY_WIDTH * usize::from(plan.entries);
+            let end = Entry::WIDTH * usize::from(plan.entries);
             print_schedule(out, plan.workers, plan.nodes, &schedule[0..end]);
         }
     }

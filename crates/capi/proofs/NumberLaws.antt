@@ -12,13 +12,14 @@ use Rattle.worker.proofs.RefusalLaws.{judged_keeps}
 use Rattle.words.specs.Replies.{Reply, refused, accepted, refusing, reply, no_values, replied}
 use Rattle.words.specs.Header.{header_refusals}
 use Rattle.words.specs.Layout.{layout2}
+use Rattle.words.specs.Entries.{entries_of}
 use Rattle.arena.specs.Init.{fresh_words, init_refusals, init_answer}
 use Rattle.arena.specs.Start.{start_refusals, start_answer}
 use Rattle.arena.specs.Snapshot.{snapshot_refusals, snapshot_answer}
 use Rattle.lazy.specs.FindFree.{find_free_answer}
 use Rattle.lazy.specs.Turn.{outcome_of, turn_on, turn_answer}
 use Rattle.linear.specs.Linearizable.{Linearizable}
-use Rattle.schedule.specs.Run.{entries_of, run_refusals, run_answer, DoneLinearizable}
+use Rattle.schedule.specs.Run.{run_refusals, run_answer, DoneLinearizable}
 use Rattle.schedule.specs.declared.Totals.{Totals}
 use Rattle.capi.specs.Number.{reply_number, unreported, report_in, value_in, second_in, Reads, Readable, Fitting, bare}
 

@@ -3,14 +3,15 @@
 
 ghost use Rattle.std.specs.Prelude.{◌≡◌, ◌/◌, length};
 ghost use Rattle.words.specs.Layout.{layout2};
-ghost use Rattle.words.specs.Replies.{reply};
+ghost use Rattle.words.specs.Replies.{no_values, reply};
+ghost use Rattle.words.specs.Entries.{entries_of};
 ghost use Rattle.arena.specs.Init.{fresh_words, init_answer, init_arena};
 ghost use Rattle.arena.specs.Start.{start_answer, start_arena};
 ghost use Rattle.arena.specs.Snapshot.{snapshot_answer, snapshot_words};
 ghost use Rattle.lazy.specs.FindFree.{find_free_answer};
 ghost use Rattle.lazy.specs.Turn.{turn_answer, turn_arena};
 ghost use Rattle.linear.specs.Linearizable.{Linearizable};
-ghost use Rattle.schedule.specs.Run.{entries_of, call_width, wait_width, totals_values, run_answer, run_arena, run_call_words, run_wait_words};
+ghost use Rattle.schedule.specs.Run.{call_width, wait_width, totals_values, run_answer, run_arena, run_call_words, run_wait_words};
 ghost use Rattle.capi.specs.Number.{reply_number, unreported, Reads, bare, values_or};
 
 use number::number;
@@ -96,14 +97,15 @@ pub extern "C" fn lazy_list_run(
     ensures linearizable { result ≡ 0 → Linearizable (fresh_words layout2 workers nodes) (entries_of schedule.now) }
 {
     let summary = schedule::run(arena, workers, nodes, schedule, history, waits);
-    write_totals(totals, summary);
-    number(summary)
+    number(write_totals(totals, summary))
 }
 
-fn write_totals(totals: &mut [u16; 4], summary: Result<Totals, Refusal>)
-    ensures { totals.new ≡ values_or totals.old (reply totals_values summary) }
+// The totals have words of their own.
+fn write_totals(totals: &mut [u16; 4], summary: Result<Totals, Refusal>) -> Result<(), Refusal>
+    ensures answer { reply no_values result ≡ bare (reply totals_values summary) }
+    ensures words { totals.new ≡ values_or totals.old (reply totals_values summary) }
 {
-    if let Ok(done) = summary {
-        *totals = [done.entries, done.refused, done.waits, done.calls];
-    }
+    let done = summary?;
+    *totals = [done.entries, done.refused, done.waits, done.calls];
+    Ok(())
 }

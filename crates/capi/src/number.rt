@@ -6,10 +6,9 @@ ghost use Rattle.lazy.specs.FindFree.{found_values, free_number};
 ghost use Rattle.capi.specs.Number.{reply_number, Reads, Fitting};
 
 use lazy::Found;
-use schedule::Totals;
 use worker::{Node, Refusal, Report};
 
-// Where a report and two values stand, above the byte of the refusal.
+// Where a report and two values stand, above the byte of the refusal. The C interface has a report by its number, 0 to 3.
 const REPORT: u64 = 256;
 
 const FIRST: u64 = 65536;
@@ -37,15 +36,6 @@ pub(crate) fn number<T: Told>(answer: Result<T, Refusal>) -> u64
 }
 
 impl Told for () {
-    ghost values = { no_values };
-
-    fn number(self) -> u64 {
-        0
-    }
-}
-
-// The totals of a run have words of their own.
-impl Told for Totals {
     ghost values = { no_values };
 
     fn number(self) -> u64 {

@@ -1,10 +1,9 @@
 // Calls, the turns that they take, and what is printed of them.
-use crate::print::{Given, Out, Reply};
+use crate::print::Given;
 use std::fmt;
-use std::fmt::Write;
 use worker::{Refusal, Report, Worker};
 
-// What a start asks for.
+// What a start asks for, as a case's text says it: `add(5).of(1).by(1)`. No `Entry`, which may be a turn too.
 #[derive(Clone, Copy)]
 pub struct Call {
     worker: u16,
@@ -49,13 +48,13 @@ impl Call {
     }
 
     // From its start, so many turns.
-    fn begin(self, arena: &mut [u16], count: u16) -> Result<Report, Refusal> {
+    pub fn begin(self, arena: &mut [u16], count: u16) -> Result<Report, Refusal> {
         self.start(arena)?;
         turns(arena, self.worker, count)
     }
 
     // From its start to its end.
-    fn run(self, arena: &mut [u16]) -> Result<Ending, Refusal> {
+    pub fn run(self, arena: &mut [u16]) -> Result<Ending, Refusal> {
         self.start(arena)?;
         finish(arena, self.worker)
     }
@@ -86,6 +85,10 @@ const MOST_TURNS: u16 = 100;
 pub struct Ending(Option<(u16, Report)>);
 
 impl Given for Ending {
+    fn mark() -> &'static str {
+        ", "
+    }
+
     fn print<W: fmt::Write>(&self, f: &mut fmt::Formatter<W>) -> fmt::Result {
         match self.0 {
             Some((count, report)) => {
@@ -95,53 +98,4 @@ impl Given for Ending {
             None => write!(f, "not finished in {MOST_TURNS} turns"),
         }
     }
-}
-
-pub fn show_init(
-    out: &mut Out,
-    text: &str,
-    words: &mut [u16],
-    layout: u16,
-    workers: u16,
-    nodes: u16,
-) -> fmt::Result {
-    writeln!(
-        out,
-        "{text}: {}",
-        Reply(arena::init(words, layout, workers, nodes))
-    )
-}
-
-pub fn show_start(out: &mut Out, text: &str, arena: &mut [u16], call: Call) -> fmt::Result {
-    writeln!(out, "{text}: {}", Reply(call.start(arena)))
-}
-
-// A call's start, and so many turns of it.
-pub fn show_begin(
-    out: &mut Out,
-    text: &str,
-    arena: &mut [u16],
-    call: Call,
-    count: u16,
-) -> fmt::Result {
-    writeln!(out, "{text}: {}", Reply(call.begin(arena, count)))
-}
-
-pub fn show_turns(
-    out: &mut Out,
-    text: &str,
-    arena: &mut [u16],
-    worker: u16,
-    count: u16,
-) -> fmt::Result {
-    writeln!(out, "{text}: {}", Reply(turns(arena, worker, count)))
-}
-
-pub fn show_finish(out: &mut Out, text: &str, arena: &mut [u16], worker: u16) -> fmt::Result {
-    writeln!(out, "{text}, {}", Reply(finish(arena, worker)))
-}
-
-// A whole call.
-pub fn show_call(out: &mut Out, text: &str, arena: &mut [u16], call: Call) -> fmt::Result {
-    writeln!(out, "{text}, {}", Reply(call.run(arena)))
 }

@@ -1,9 +1,8 @@
 // Links that lead in circles, out of range, or on from Tail.
-use crate::calls::{Call, show_call, show_turns};
+use crate::calls::{Call, turns};
 use crate::fresh::{first, fresh, rewritten};
-use crate::print::{Out, Reply, show_part, show_words};
+use crate::print::{Out, show, show_part, show_words};
 use std::fmt;
-use std::fmt::Write;
 use words::layout::LAYOUT_1;
 use worker::Worker;
 
@@ -17,7 +16,7 @@ pub fn searches(out: &mut Out) -> fmt::Result {
     ] {
         let links = [(17, 2), (24, 3), (25, 3), (28, 4), (29, 2)];
         let mut arena: [u16; 32] = rewritten(fresh(LAYOUT_1, 1, 4), &links);
-        show_call(out, text, &mut arena, call)?;
+        show(out, text, call.run(&mut arena))?;
     }
     Ok(())
 }
@@ -48,28 +47,36 @@ fn at_the_hunt() -> [u16; 36] {
 
 fn hunt(out: &mut Out, text: &str, mut arena: [u16; 36]) -> fmt::Result {
     let found = lazy::find_free(&arena);
-    show_turns(out, text, &mut arena, 0, 1)?;
+    show(out, text, turns(&mut arena, 0, 1))?;
     show_part(out, "  worker", &arena, 8..16)?;
-    writeln!(out, "  find_free: {}", Reply(found))
+    show(out, "  find_free", found)
 }
 
 // What stands in the way of a turn on an arena, too few words, an odd header, no such worker; and of the search alone.
 pub fn arenas(out: &mut Out) -> fmt::Result {
     let mut arena: [u16; 28] = fresh(LAYOUT_1, 1, 3);
-    show_turns(out, "turn of worker 1", &mut arena, 1, 1)?;
-    show_turns(out, "turn, 27 words", first(&mut arena, 27), 0, 1)?;
-    show_turns(out, "turn, 7 words, worker 9", first(&mut arena, 7), 9, 1)?;
-    writeln!(
+    show(out, "turn of worker 1", turns(&mut arena, 1, 1))?;
+    show(out, "turn, 27 words", turns(first(&mut arena, 27), 0, 1))?;
+    show(
         out,
-        "find_free, 27 words: {}",
-        Reply(lazy::find_free(first(&mut arena, 27)))
+        "turn, 7 words, worker 9",
+        turns(first(&mut arena, 7), 9, 1),
+    )?;
+    show(
+        out,
+        "find_free, 27 words",
+        lazy::find_free(first(&mut arena, 27)),
     )?;
     arena[6] = 1;
-    show_turns(out, "turn, header word 6 is 1, worker 9", &mut arena, 9, 1)?;
-    writeln!(
+    show(
         out,
-        "find_free, header word 6 is 1: {}",
-        Reply(lazy::find_free(&arena))
+        "turn, header word 6 is 1, worker 9",
+        turns(&mut arena, 9, 1),
+    )?;
+    show(
+        out,
+        "find_free, header word 6 is 1",
+        lazy::find_free(&arena),
     )?;
     show_words(out, "  they stay:", &arena)
 }

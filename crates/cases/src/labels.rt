@@ -1,10 +1,10 @@
 // Layout 2: a node has a length, which an add carries.
-use crate::calls::{Call, show_begin, show_call, show_init, show_start, show_turns};
+use crate::calls::{Call, turns};
 use crate::fresh::{first, fresh, rewritten};
-use crate::print::{Out, Reply, show_part, show_words};
+use crate::print::{Out, show, show_part, show_words};
 use crate::reuse::keys;
+use crate::starts::{start_rewritten, start_short};
 use std::fmt;
-use std::fmt::Write;
 use words::layout::{LAYOUT_1, LAYOUT_2};
 use worker::Worker;
 
@@ -14,7 +14,11 @@ pub fn inits(out: &mut Out) -> fmt::Result {
         ("layout 2: init 8 1024, 5192 words", 5192),
         ("layout 2: init 8 1024, 5191 words", 5191),
     ] {
-        show_init(out, text, first(&mut large, room), LAYOUT_2, 8, 1024)?;
+        show(
+            out,
+            text,
+            arena::init(first(&mut large, room), LAYOUT_2, 8, 1024),
+        )?;
     }
     small_inits(out)
 }
@@ -27,35 +31,23 @@ fn small_inits(out: &mut Out) -> fmt::Result {
         ("layout 65535: init 1 3, no words", 0, 65535),
         ("layout 2: init 1 3, 33 words", 33, LAYOUT_2),
     ] {
-        show_init(out, text, first(&mut more, room), layout, 1, 3)?;
+        show(out, text, arena::init(first(&mut more, room), layout, 1, 3))?;
     }
     show_words(out, "they are:", &more)
 }
 
-// Starts on the first words of a fresh arena, with one header word written anew.
+// Starts on a fresh arena with one header word written anew, and on the first words of one.
 pub fn headers(out: &mut Out) -> fmt::Result {
-    for (at, word) in [(0, 0), (0, 1), (0, 3), (5, 28), (5, 32)] {
-        let mut arena = rewritten(one_worker(LAYOUT_2), &[(at, word)]);
-        let started = Call::add(5).of(1).start(&mut arena);
-        writeln!(
-            out,
-            "layout 2: start, header word {at} is {word}: {}",
-            Reply(started)
-        )?;
+    let call = Call::add(5).of(1);
+    for change in [(0, 0), (0, 1), (0, 3), (5, 28), (5, 32)] {
+        let arena = one_worker(LAYOUT_2);
+        start_rewritten(out, "layout 2: start", arena, change, call)?;
     }
-    short(out)
-}
-
-// A start on the first words of a fresh arena.
-fn short(out: &mut Out) -> fmt::Result {
-    let mut arena = one_worker(LAYOUT_2);
-    for (text, room) in [
+    let rooms = [
         ("layout 2: start, 30 words", 30),
         ("layout 2: start, 31 words", 31),
-    ] {
-        show_start(out, text, first(&mut arena, room), Call::add(5).of(1))?;
-    }
-    Ok(())
+    ];
+    start_short(out, &rooms, &mut one_worker(LAYOUT_2), call)
 }
 
 // One worker and three nodes; of layout 1 they take 28 of the words, of layout 2 all.
@@ -96,7 +88,7 @@ pub fn lengths(out: &mut Out) -> fmt::Result {
         ),
     ] {
         let mut arena = one_worker(layout);
-        show_start(out, text, &mut arena, call)?;
+        show(out, text, call.start(&mut arena))?;
         show_part(out, "  worker", &arena, 8..16)?;
     }
     Ok(())
@@ -105,16 +97,14 @@ pub fn lengths(out: &mut Out) -> fmt::Result {
 // The worker carries the length until its add finishes.
 pub fn carried(out: &mut Out) -> fmt::Result {
     let mut arena = one_worker(LAYOUT_2);
-    show_begin(
+    show(
         out,
         "carried: add 5 of 3 begins",
-        &mut arena,
-        Call::add(5).of(3),
-        10,
+        Call::add(5).of(3).begin(&mut arena, 10),
     )?;
     show_worker_and_node(out, &arena)?;
-    show_start(out, "carried: add 6 of 0", &mut arena, Call::add(6))?;
-    show_turns(out, "carried: add 5 of 3 ends", &mut arena, 0, 4)?;
+    show(out, "carried: add 6 of 0", Call::add(6).start(&mut arena))?;
+    show(out, "carried: add 5 of 3 ends", turns(&mut arena, 0, 4))?;
     show_worker_and_node(out, &arena)
 }
 
@@ -126,28 +116,35 @@ fn show_worker_and_node(out: &mut Out, arena: &[u16; 31]) -> fmt::Result {
 // A removed node keeps its length until it is taken again.
 pub fn taken_again(out: &mut Out) -> fmt::Result {
     let mut arena = one_worker(LAYOUT_2);
-    show_call(out, "taken: add 5 of 3", &mut arena, Call::add(5).of(3))?;
+    show(out, "taken: add 5 of 3", Call::add(5).of(3).run(&mut arena))?;
     show_part(out, "  node 2", &arena, 26..31)?;
-    show_call(out, "taken: add 5 of 9", &mut arena, Call::add(5).of(9))?;
+    show(out, "taken: add 5 of 9", Call::add(5).of(9).run(&mut arena))?;
     show_part(out, "  node 2", &arena, 26..31)?;
-    show_call(out, "taken: contains 5", &mut arena, Call::contains(5))?;
-    show_call(out, "taken: remove 5", &mut arena, Call::remove(5))?;
+    show(out, "taken: contains 5", Call::contains(5).run(&mut arena))?;
+    show(out, "taken: remove 5", Call::remove(5).run(&mut arena))?;
     show_part(out, "  node 2", &arena, 26..31)?;
-    show_call(out, "taken: add 5 of 2", &mut arena, Call::add(5).of(2))?;
+    show(out, "taken: add 5 of 2", Call::add(5).of(2).run(&mut arena))?;
     show_part(out, "  node 2", &arena, 26..31)
 }
 
 // Two nodes besides Head and Tail, the later one first on the chain.
 pub fn chained(out: &mut Out) -> fmt::Result {
     let mut arena: [u16; 36] = fresh(LAYOUT_2, 1, 4);
-    show_call(
+    show(
         out,
         "chained: add 9 of 65526",
-        &mut arena,
-        Call::add(9).of(65526),
+        Call::add(9).of(65526).run(&mut arena),
     )?;
-    show_call(out, "chained: add 5 of 4", &mut arena, Call::add(5).of(4))?;
-    show_call(out, "chained: add 7 of 1", &mut arena, Call::add(7).of(1))?;
+    show(
+        out,
+        "chained: add 5 of 4",
+        Call::add(5).of(4).run(&mut arena),
+    )?;
+    show(
+        out,
+        "chained: add 7 of 1",
+        Call::add(7).of(1).run(&mut arena),
+    )?;
     show_part(out, "  nodes", &arena, 16..36)?;
     keys(out, "chained: snapshot", &arena)
 }
@@ -167,7 +164,7 @@ pub fn written(out: &mut Out) -> fmt::Result {
             (15, 65535),
         ];
         let mut arena = rewritten(one_worker(layout), &record);
-        show_turns(out, text, &mut arena, 0, 1)?;
+        show(out, text, turns(&mut arena, 0, 1))?;
         show_part(out, "  worker", &arena, 8..16)?;
         show_part(out, "  the words behind", &arena, 16..31)?;
     }

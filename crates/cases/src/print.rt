@@ -16,6 +16,11 @@ impl fmt::Write for Out {
     }
 }
 
+// A line: a text, and what was replied behind the mark of its kind.
+pub fn show<T: Given>(out: &mut Out, text: &str, reply: Result<T, Refusal>) -> fmt::Result {
+    writeln!(out, "{text}{}{}", T::mark(), Reply(reply))
+}
+
 // A line: a text, and words.
 pub fn show_words(out: &mut Out, text: &str, words: &[u16]) -> fmt::Result {
     writeln!(out, "{text}{}", Words(words))
@@ -33,7 +38,7 @@ pub fn show_keys(
     count: Result<u16, Refusal>,
     lent: &[u16],
 ) -> fmt::Result {
-    writeln!(out, "{text}: {}", Reply(count))?;
+    show(out, text, count)?;
     show_words(out, "  lent words:", lent)
 }
 
@@ -64,7 +69,11 @@ impl<T: Given> fmt::Display for Reply<T> {
 }
 
 // What a reply gives that is no refusal.
-pub trait Given {
+pub trait Given: Copy {
+    fn mark() -> &'static str {
+        ": "
+    }
+
     fn print<W: fmt::Write>(&self, f: &mut fmt::Formatter<W>) -> fmt::Result;
 }
 

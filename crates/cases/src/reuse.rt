@@ -1,7 +1,7 @@
 // Nodes taken, given up, and taken again.
-use crate::calls::{Call, show_begin, show_call, show_finish, show_turns};
+use crate::calls::{Call, finish, turns};
 use crate::fresh::fresh;
-use crate::print::{Out, show_keys};
+use crate::print::{Out, show, show_keys};
 use std::fmt;
 use words::layout::LAYOUT_1;
 
@@ -16,7 +16,7 @@ pub fn filled(out: &mut Out) -> fmt::Result {
         ("fill: remove 5", Call::remove(5)),
         ("fill: add 7", Call::add(7)),
     ] {
-        show_call(out, text, &mut arena, call)?;
+        show(out, text, call.run(&mut arena))?;
     }
     keys(out, "fill: snapshot", &arena)
 }
@@ -25,12 +25,12 @@ pub fn filled(out: &mut Out) -> fmt::Result {
 pub fn stood_on(out: &mut Out) -> fmt::Result {
     let mut arena: [u16; 36] = fresh(LAYOUT_1, 2, 3);
     let slow = Call::contains(5).by(1);
-    show_call(out, "slow: add 5", &mut arena, Call::add(5))?;
-    show_begin(out, "slow: contains 5 begins", &mut arena, slow, 4)?;
-    show_call(out, "slow: remove 5", &mut arena, Call::remove(5))?;
-    show_call(out, "slow: add 7", &mut arena, Call::add(7))?;
-    show_finish(out, "slow: contains 5 goes on", &mut arena, 1)?;
-    show_call(out, "slow: add 7", &mut arena, Call::add(7))?;
+    show(out, "slow: add 5", Call::add(5).run(&mut arena))?;
+    show(out, "slow: contains 5 begins", slow.begin(&mut arena, 4))?;
+    show(out, "slow: remove 5", Call::remove(5).run(&mut arena))?;
+    show(out, "slow: add 7", Call::add(7).run(&mut arena))?;
+    show(out, "slow: contains 5 goes on", finish(&mut arena, 1))?;
+    show(out, "slow: add 7", Call::add(7).run(&mut arena))?;
     keys(out, "slow: snapshot", &arena)
 }
 
@@ -38,17 +38,17 @@ pub fn stood_on(out: &mut Out) -> fmt::Result {
 pub fn led_to(out: &mut Out) -> fmt::Result {
     let mut arena: [u16; 40] = fresh(LAYOUT_1, 2, 4);
     let slow = Call::contains(9).by(1);
-    show_call(out, "led: add 5", &mut arena, Call::add(5))?;
-    show_call(out, "led: add 6", &mut arena, Call::add(6))?;
-    show_begin(out, "led: contains 9 begins", &mut arena, slow, 4)?;
-    show_call(out, "led: remove 5", &mut arena, Call::remove(5))?;
-    show_call(out, "led: remove 6", &mut arena, Call::remove(6))?;
-    show_call(out, "led: add 7", &mut arena, Call::add(7))?;
-    show_turns(out, "led: contains 9 goes on", &mut arena, 1, 1)?;
-    show_call(out, "led: add 7", &mut arena, Call::add(7))?;
-    show_call(out, "led: add 8", &mut arena, Call::add(8))?;
-    show_finish(out, "led: contains 9 ends", &mut arena, 1)?;
-    show_call(out, "led: add 8", &mut arena, Call::add(8))?;
+    show(out, "led: add 5", Call::add(5).run(&mut arena))?;
+    show(out, "led: add 6", Call::add(6).run(&mut arena))?;
+    show(out, "led: contains 9 begins", slow.begin(&mut arena, 4))?;
+    show(out, "led: remove 5", Call::remove(5).run(&mut arena))?;
+    show(out, "led: remove 6", Call::remove(6).run(&mut arena))?;
+    show(out, "led: add 7", Call::add(7).run(&mut arena))?;
+    show(out, "led: contains 9 goes on", turns(&mut arena, 1, 1))?;
+    show(out, "led: add 7", Call::add(7).run(&mut arena))?;
+    show(out, "led: add 8", Call::add(8).run(&mut arena))?;
+    show(out, "led: contains 9 ends", finish(&mut arena, 1))?;
+    show(out, "led: add 8", Call::add(8).run(&mut arena))?;
     keys(out, "led: snapshot", &arena)
 }
 

@@ -1,7 +1,7 @@
 // Snapshots of whole and of broken chains, and of chains with marked nodes.
-use crate::calls::{Call, show_begin, show_call, show_turns};
+use crate::calls::{Call, turns};
 use crate::fresh::{first, fresh, rewritten};
-use crate::print::{Out, show_keys};
+use crate::print::{Out, show, show_keys};
 use crate::reuse::keys;
 use std::fmt;
 use words::layout::LAYOUT_1;
@@ -37,14 +37,12 @@ pub fn breaks(out: &mut Out) -> fmt::Result {
 }
 
 pub fn longer(out: &mut Out) -> fmt::Result {
-    for (text, last, room) in [
+    let rows = [
         ("snapshot, 10 20 30", 30, 4),
         ("snapshot, 10 20 30, room for 2", 30, 2),
         ("snapshot, 10 20 20, room for 2", 20, 2),
-    ] {
-        snapshot(out, text, &three(0, last), &mut [9; 4], room)?;
-    }
-    Ok(())
+    ];
+    snapshots_of_three(out, 0, &rows)
 }
 
 // A marked node is not listed and needs no room, and is tested like the others.
@@ -57,16 +55,18 @@ pub fn marks(out: &mut Out) -> fmt::Result {
     ] {
         snapshot(out, text, &one(1, at, word), &mut [9; 2], 2)?;
     }
-    longer_marks(out)
-}
-
-fn longer_marks(out: &mut Out) -> fmt::Result {
-    for (text, last, room) in [
+    let rows = [
         ("snapshot, 10 20 30, 20 marked, room for 2", 30, 2),
         ("snapshot, 10 20 30, 20 marked, room for 1", 30, 1),
         ("snapshot, 10 20 15, 20 marked", 15, 4),
-    ] {
-        snapshot(out, text, &three(1, last), &mut [9; 4], room)?;
+    ];
+    snapshots_of_three(out, 1, &rows)
+}
+
+// Of five nodes, with the mark of key 20: for each row the last key and the room.
+fn snapshots_of_three(out: &mut Out, mark: u16, rows: &[(&str, u16, usize)]) -> fmt::Result {
+    for (text, last, room) in rows {
+        snapshot(out, text, &three(mark, *last), &mut [9; 4], *room)?;
     }
     Ok(())
 }
@@ -110,27 +110,28 @@ fn snapshot(
 pub fn half_removed(out: &mut Out) -> fmt::Result {
     let mut arena: [u16; 36] = fresh(LAYOUT_1, 2, 3);
     let remove = Call::remove(5);
-    show_call(out, "half removed: add 5", &mut arena, Call::add(5))?;
-    show_begin(
+    show(out, "half removed: add 5", Call::add(5).run(&mut arena))?;
+    show(
         out,
         "half removed: remove 5 is about to mark",
-        &mut arena,
-        remove,
-        9,
+        remove.begin(&mut arena, 9),
     )?;
     look(out, &mut arena)?;
-    show_turns(out, "half removed: remove 5 marks", &mut arena, 0, 1)?;
+    show(out, "half removed: remove 5 marks", turns(&mut arena, 0, 1))?;
     look(out, &mut arena)?;
-    show_turns(out, "half removed: remove 5 unlinks", &mut arena, 0, 2)?;
+    show(
+        out,
+        "half removed: remove 5 unlinks",
+        turns(&mut arena, 0, 2),
+    )?;
     look(out, &mut arena)
 }
 
 fn look(out: &mut Out, arena: &mut [u16]) -> fmt::Result {
     keys(out, "half removed: snapshot", arena)?;
-    show_call(
+    show(
         out,
         "half removed: contains 5",
-        arena,
-        Call::contains(5).by(1),
+        Call::contains(5).by(1).run(arena),
     )
 }

@@ -1,7 +1,7 @@
 // Fresh arenas, and starts on arenas that are short, or whose header or record is damaged.
-use crate::calls::{Call, show_init, show_start};
+use crate::calls::Call;
 use crate::fresh::{first, fresh, rewritten};
-use crate::print::{Out, Reply, show_part, show_words};
+use crate::print::{Out, Reply, show, show_part, show_words};
 use std::fmt;
 use std::fmt::Write;
 use words::layout::LAYOUT_1;
@@ -14,14 +14,30 @@ pub fn inits(out: &mut Out) -> fmt::Result {
         ("init 8 1025", 4168, 8, 1025),
         ("init 0 3", 4168, 0, 3),
     ] {
-        show_init(out, text, first(&mut large, room), LAYOUT_1, workers, nodes)?;
+        show(
+            out,
+            text,
+            arena::init(first(&mut large, room), LAYOUT_1, workers, nodes),
+        )?;
     }
     let mut few = [7; 3];
-    show_init(out, "init 9 2, 3 words", &mut few, LAYOUT_1, 9, 2)?;
-    show_init(out, "init 1 3, 3 words", &mut few, LAYOUT_1, 1, 3)?;
+    show(
+        out,
+        "init 9 2, 3 words",
+        arena::init(&mut few, LAYOUT_1, 9, 2),
+    )?;
+    show(
+        out,
+        "init 1 3, 3 words",
+        arena::init(&mut few, LAYOUT_1, 1, 3),
+    )?;
     show_words(out, "they stay:", &few)?;
     let mut more = [7; 30];
-    show_init(out, "init 1 3, 30 words", &mut more, LAYOUT_1, 1, 3)?;
+    show(
+        out,
+        "init 1 3, 30 words",
+        arena::init(&mut more, LAYOUT_1, 1, 3),
+    )?;
     show_words(out, "they are:", &more)
 }
 
@@ -37,22 +53,45 @@ pub fn headers(out: &mut Out) -> fmt::Result {
         (6, 1),
         (7, 1),
     ] {
-        let mut arena: [u16; 28] = rewritten(fresh(LAYOUT_1, 1, 3), &[(at, word)]);
-        let started = Call::add(5).start(&mut arena);
-        writeln!(out, "start, header word {at} is {word}: {}", Reply(started))?;
+        let arena: [u16; 28] = fresh(LAYOUT_1, 1, 3);
+        start_rewritten(out, "start", arena, (at, word), Call::add(5))?;
     }
-    short(out)
-}
-
-// An add on the first words of a fresh arena.
-fn short(out: &mut Out) -> fmt::Result {
     let mut arena: [u16; 28] = fresh(LAYOUT_1, 1, 3);
-    for (text, room) in [
+    let rooms = [
         ("start, 27 words", 27),
         ("start, 7 words", 7),
         ("start, no words", 0),
-    ] {
-        show_start(out, text, first(&mut arena, room), Call::add(5))?;
+    ];
+    start_short(out, &rooms, &mut arena, Call::add(5))
+}
+
+// A start on an arena with one header word written anew.
+pub fn start_rewritten<const WORDS: usize>(
+    out: &mut Out,
+    text: &str,
+    arena: [u16; WORDS],
+    change: (usize, u16),
+    call: Call,
+) -> fmt::Result {
+    let mut arena = rewritten(arena, &[change]);
+    let (at, word) = change;
+    let started = call.start(&mut arena);
+    writeln!(
+        out,
+        "{text}, header word {at} is {word}: {}",
+        Reply(started)
+    )
+}
+
+// Starts on the first words of an arena, so many of them.
+pub fn start_short(
+    out: &mut Out,
+    rooms: &[(&str, usize)],
+    arena: &mut [u16],
+    call: Call,
+) -> fmt::Result {
+    for (text, room) in rooms {
+        show(out, text, call.start(first(arena, *room)))?;
     }
     Ok(())
 }
@@ -74,7 +113,7 @@ pub fn records(out: &mut Out) -> fmt::Result {
         ("start contains 65534", 0, Call::contains(65534)),
     ] {
         let mut arena: [u16; 28] = rewritten(fresh(LAYOUT_1, 1, 3), &[(8, stage)]);
-        show_start(out, text, &mut arena, call)?;
+        show(out, text, call.start(&mut arena))?;
         show_part(out, "  record of worker 0:", &arena, 8..16)?;
     }
     Ok(())

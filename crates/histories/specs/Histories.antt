@@ -3,8 +3,8 @@ use Rattle.std.specs.Prelude.{ℕ, List, [], ◌∷◌, ◌++◌, map, length, r
 use Rattle.worker.specs.Worker.{add, remove, contains}
 use Rattle.worker.specs.Report.{answer_number}
 use Rattle.worker.specs.declared.report.Answer.TheVariants.{Yes, No, Full}
+use Rattle.words.specs.declared.entry.Entry.{Entry}
 use Rattle.arena.specs.Sets.{Label, set_of}
-use Rattle.linear.specs.Entries.{Entry}
 use Rattle.linear.specs.History.{Call, Wait, Totals, arena_at, calls, waits, totals}
 use Rattle.linear.specs.Order.{in_order}
 use Rattle.linear.specs.Sequential.{labels_after}

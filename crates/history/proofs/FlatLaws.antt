@@ -15,16 +15,17 @@ use Rattle.words.proofs.Judged.{judged_refused, judged_accepted, given_values}
 use Rattle.arena.specs.Init.{fresh_words}
 use Rattle.linear.specs.History.{totals}
 use Rattle.schedule.specs.declared.Totals.{Totals}
-use Rattle.schedule.specs.Records.{flat_words, record_in, RecordLaws}
-use Rattle.schedule.specs.Run.{call_width, call_laws, wait_width, wait_laws, entries_of, records_of, waits_of, told, row_after, run_refusals, run_answer}
+use Rattle.words.specs.Flat.{flat_words, record_in, IsRecord}
+use Rattle.words.specs.Entries.{entries_of}
+use Rattle.schedule.specs.Run.{call_width, call_laws, wait_width, wait_laws, records_of, waits_of, told, row_after, run_refusals, run_answer}
 use Rattle.schedule.specs.Run.{run_arena}
 use Rattle.schedule.specs.Run.{run_call_words, run_wait_words, totals_values, DoneLinearizable}
-use Rattle.schedule.proofs.Flat.{flat_length}
+use Rattle.words.proofs.FlatLaws.{flat_length}
 use Rattle.schedule.proofs.HistoryLaws.{judged_most, answer_most, arena_most, told_calls, told_waits}
 use Rattle.history.specs.Rows.{filled_row, told_in, RanWithin}
 use Rattle.history.proofs.RowLaws.{none_filled, filled_flat}
 
-module _ {A : Type 0} {width : ℕ} {words : A → List ℕ} {first : List ℕ → A} (laws : RecordLaws width words first) (records : List A)
+module _ {A : Type 0} {width : ℕ} {words : A → List ℕ} {first : List ℕ → A} (laws : IsRecord width words first) (records : List A)
     (count : Totals → ℕ) (refusals : List Test) (values part after : List ℕ) (same : length after ≡ length part)
     (written : after ≡ row_after refusals (flat_words words records) part)
     (counted : (done : Totals) → reply totals_values (Ok done) ≡ replied refusals values → count done ≡ length records) where

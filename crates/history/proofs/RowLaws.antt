@@ -1,5 +1,5 @@
 -- Laws of rows that are filled, and of records in flat words.
-use Prim.Native.Nat.{ℕ, zero, suc, ◌+◌, ◌≤◌, ◌<◌}
+use Prim.Native.Nat.{ℕ, zero, suc, ◌+◌, ◌<◌}
 use mathlib.Core.Path.{◌≡◌, refl, sym, ap, subst}
 use mathlib.Core.List.{List, [], ◌∷◌, ◌++◌, append_assoc, flatten}
 use native.Mathlib.Nat.{add-zero, zero-add, add-suc, suc-add}
@@ -8,9 +8,9 @@ use native.Mathlib.Omega.{arith}
 use lib.ListN.{length, drop, set}
 use Rattle.schedule.specs.declared.Call.{Call}
 use Rattle.schedule.specs.declared.Wait.{Wait}
-use Rattle.schedule.specs.Records.{flat_words, record_in, RecordLaws}
+use Rattle.words.specs.Flat.{flat_words, record_in, IsRecord}
 use Rattle.schedule.specs.Run.{told}
-use Rattle.schedule.proofs.Flat.{read_first, read_behind}
+use Rattle.words.proofs.FlatLaws.{read_first, read_behind}
 use Rattle.history.specs.Rows.{records_from, filled_row, no_call, no_wait}
 
 module _ {A : Type 0} (record_at : ℕ → A) where
@@ -35,7 +35,7 @@ module _ {A : Type 0} (record_at : ℕ → A) where
   next_filled count row fits = rw add-one (rw add-zero at (next_from 0 count row fits))
 
 -- records as they stand in flat words
-module _ {A : Type 0} {width : ℕ} {words : A → List ℕ} {first : List ℕ → A} (laws : RecordLaws width words first) where
+module _ {A : Type 0} {width : ℕ} {words : A → List ℕ} {first : List ℕ → A} (laws : IsRecord width words first) where
   abbrev read : List ℕ → ℕ → A
   read = record_in width first
 

@@ -2,7 +2,7 @@
 use Rattle.std.specs.Prelude.{ℕ, zero, suc, ◌≤◌, ◌≡◌, List, [], ◌∷◌, ◌++◌, length, drop, Result, Ok, Err}
 use Rattle.worker.specs.declared.refusal.Refusal.{Refusal}
 use Rattle.words.specs.Replies.{reply}
-use Rattle.schedule.specs.Records.{record_in}
+use Rattle.words.specs.Flat.{record_in}
 use Rattle.schedule.specs.Run.{call_width, first_call, wait_width, first_wait, totals_values, run_answer, run_arena, run_records, run_waits, DoneLinearizable}
 use Rattle.schedule.specs.declared.Call.{Call}
 use Rattle.schedule.specs.declared.Wait.{Wait}

@@ -4,20 +4,18 @@
 ghost use Rattle.std.specs.Prelude.{◌≡◌, ◌≤◌, length, replicate};
 ghost use Rattle.words.specs.Replies.{reply};
 ghost use Rattle.schedule.specs.Run.{totals_values, run_answer, run_arena, run_records, run_waits, DoneLinearizable};
-ghost use Rattle.schedule.specs.Records.{record_in};
+ghost use Rattle.words.specs.Flat.{record_in};
 ghost use Rattle.history.specs.Rows.{filled_row, RanWithin, no_call, no_wait};
 
-use schedule::records::{self, Record};
 use schedule::{Call, Totals, Wait};
+use words::Entry;
+use words::flat::{self, Record};
 use worker::Refusal;
 
-// A schedule has at most 4,000 entries, so a run has at most so many calls, and so many waits. Their words are of fixed length, for there is
-// no heap.
-const MOST: usize = 4000;
+// A run has at most as many calls, and as many waits, as its schedule has entries. Their words are of fixed length, for there is no heap.
+const MOST_CALL_WORDS: usize = Call::WIDTH * Entry::MOST;
 
-const MOST_CALL_WORDS: usize = Call::WIDTH * MOST;
-
-const MOST_WAIT_WORDS: usize = Wait::WIDTH * MOST;
+const MOST_WAIT_WORDS: usize = Wait::WIDTH * Entry::MOST;
 
 // The run on flat words, with room for as many calls and waits as rows of so many records have.
 fn run_within(
@@ -35,8 +33,8 @@ fn run_within(
     ensures { RanWithin arena.old workers nodes schedule.now calls waits result
         arena.new history.new waited.new }
 {
-    let call_room = calls.min(MOST);
-    let wait_room = waits.min(MOST);
+    let call_room = calls.min(Entry::MOST);
+    let wait_room = waits.min(Entry::MOST);
     schedule::run(
         arena,
         workers,
@@ -54,7 +52,7 @@ fn fill<const WIDTH: usize, R: Record<WIDTH>>(row: &mut [R], words: &[u16], coun
     ensures { row.new ≡ filled_row (record_in WIDTH R.first words.now) count row.old }
 {
     for number in 0..count {
-        row[number as usize] = records::read(words, number);
+        row[number as usize] = flat::read(words, number);
     }
 }
 
@@ -102,7 +100,7 @@ pub fn run(
 #[derive(Clone, Copy)]
 pub struct Ran {
     pub row: [Call; 1000],
-    pub waits: [Wait; 4000],
+    pub waits: [Wait; Entry::MOST],
     pub summary: Result<Totals, Refusal>,
 }
 
@@ -115,7 +113,7 @@ pub fn run_thousand(arena: &mut [u16], workers: u16, nodes: u16, schedule: &[u16
     ensures linearizable { DoneLinearizable result.summary workers nodes schedule.now }
 {
     let mut row = [Call::default(); 1000];
-    let mut waits = [Wait::default(); 4000];
+    let mut waits = [Wait::default(); Entry::MOST];
     let summary = run(arena, workers, nodes, schedule, &mut row, &mut waits);
     Ran {
         row,

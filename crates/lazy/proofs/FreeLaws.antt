@@ -7,8 +7,8 @@ use mathlib.Core.List.{List, [], ◌∷◌, Memᴰ}
 use mathlib.Core.Bool.{true, false, true≢false}
 use mathlib.Mathlib.Data.Bool.Basic.{dichotomy, or_inl, or_inr, and_elim_left, and_elim_right}
 use native.Mathlib.Omega.{arith}
-use native.Mathlib.Decide.{ℕ_discrete}
 use native.Mathlib.Nat.{le_refl}
+use native.Mathlib.Decide.{ℕ_discrete}
 use lib.ListN.{replicate, length-replicate}
 use lib.Dec.{ltb}
 use borrow.Author.Tests.{eqb-true, ne_eqb, ltb-true}

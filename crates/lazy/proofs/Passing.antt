@@ -9,8 +9,9 @@ use mathlib.Mathlib.Data.Bool.Basic.{dichotomy}
 use native.Mathlib.Omega.{arith}
 use native.Mathlib.Decide.{ℕ_discrete}
 use lib.ListN.{length}
-use Rattle.arena.specs.Lists.{filter, Pairs, alone, ◌ahead◌}
-use Rattle.arena.proofs.ListLaws.{filter_shorter, each_of}
+use Rattle.std.proofs.lemmas.List.Sums.{length-filter, count_by-le-length}
+use Rattle.arena.specs.Lists.{Pairs, alone, ◌ahead◌}
+use Rattle.arena.proofs.ListLaws.{each_of}
 use Rattle.lazy.specs.Free.{nodes_below, passing}
 
 pub in_below : (count : ℕ) {node : ℕ} → node < count → Memᴰ node (nodes_below count)
@@ -36,19 +37,19 @@ below_long zero = refl
 below_long (suc count) = rw (below_long count)
 
 pub passing_few : (test : ℕ → Bool) (count : ℕ) → length (passing test count) ≤ count
-passing_few test count = omega (arith, filter_shorter test (nodes_below count), below_long count)
+passing_few test count = omega (arith, length-filter test (nodes_below count), count_by-le-length test (nodes_below count), below_long count)
 
 module _ (test other : ℕ → Bool) where
   -- tests that agree pass the same
   pub passing_same : (count : ℕ) → ((node : ℕ) → node < count → test node ≡ other node) → passing test count ≡ passing other count
-  unfolding nodes_below filter
+  unfolding nodes_below
   passing_same zero same = refl
   passing_same (suc count) same = rw (same count (omega arith), passing_same count (λ node h. same node (omega arith)))
 
   -- where one more node passes, one more is counted
   pub passing_more : (count more : ℕ) → more < count → test more ≡ false → other more ≡ true →
       ((node : ℕ) → (node ≡ more → ⊥) → test node ≡ other node) → length (passing other count) ≡ suc (length (passing test count))
-  unfolding nodes_below filter
+  unfolding nodes_below
   passing_more zero more h out now same = absurd (omega arith)
   passing_more (suc count) more h out now same =
       elim (ℕ_discrete count more) [

@@ -1,14 +1,14 @@
 -- Laws of a row: how many nodes it holds, and what it holds with one more.
-use Prim.Native.Nat.{ℕ, zero, suc, ◌<◌, ◌≤◌}
+use Prim.Native.Nat.{ℕ, zero, suc, ◌+◌, ◌<◌, ◌≤◌}
 use mathlib.Core.Path.{◌≡◌, refl, sym, ◌∙◌}
 use mathlib.Core.Logic.{◌⊎◌, inl, inr}
 use mathlib.Core.List.{List}
-use mathlib.Core.Bool.{Bool, true, false}
+use mathlib.Core.Bool.{Bool, true, false, and-eq-true_iff}
 use native.Mathlib.Omega.{arith}
-use native.Mathlib.Decide.{ℕ_discrete}
+use native.Mathlib.Decide.{ℕ_discrete, dec_lt}
 use lib.ListN.{length, set, replicate}
 use lib.Seq.{get_or-set_same, get_or-set_other}
-use Rattle.lazy.specs.Row.{holds, held}
+use Rattle.lazy.specs.Row.{holds, held, AllHeld, four_held}
 use Rattle.lazy.proofs.Passing.{passing_few, passing_more}
 
 -- with a node that it did not hold, a row holds one more; so it did not hold them all
@@ -41,3 +41,20 @@ pub holds_none : (size node : ℕ) → holds (replicate size false) node ≡ fal
 holds_none zero node = refl
 holds_none (suc size) zero = refl
 holds_none (suc size) (suc node) = holds_none size node
+
+-- four nodes that it holds, one behind the other
+module _ (row : List Bool) where
+  one_held : {node to : ℕ} → to ≤ node + 1 → holds row node ≡ true → AllHeld row node to
+  one_held {node} end e other h k = let same : other ≡ node = omega arith in rw same e
+
+  held_on : {from middle to : ℕ} → AllHeld row from middle → AllHeld row middle to → AllHeld row from to
+  held_on {middle} first second node h k = elim (dec_lt node middle) [ yes l ↦ first node h l | no l ↦ second node (omega arith) k ]
+
+  pub four_held_lem : (node : ℕ) {to : ℕ} → to ≤ node + 4 → four_held row node ≡ true → AllHeld row node to
+  four_held_lem node end e =
+      let last = (and-eq-true_iff _ (holds row (node + 3))).0 e in
+      let third = (and-eq-true_iff _ (holds row (node + 2))).0 last.0 in
+      let first = (and-eq-true_iff (holds row node) (holds row (node + 1))).0 third.0 in
+      held_on (one_held {to = node + 1} (omega arith) first.0)
+      (held_on (one_held {to = node + 2} (omega arith) first.1)
+      (held_on (one_held {to = node + 3} (omega arith) third.1) (one_held (omega arith) last.1)))

@@ -1,11 +1,10 @@
 -- The whole search: walks one after the other, and the lowest node that they left out.
 use Prim.Native.Nat.{ℕ, zero, suc, ◌<◌, ◌≤◌}
-use mathlib.Core.Path.{◌≡◌, refl, ap, subst, ◌∙◌}
+use mathlib.Core.Path.{◌≡◌, refl, ap, ◌∙◌}
 use mathlib.Core.List.{List, [], ◌∷◌, ◌++◌}
-use mathlib.Core.Bool.{Bool, ◌||◌, or_assoc, or_comm}
+use mathlib.Core.Bool.{Bool, false, ◌||◌, or_assoc, or_comm}
 use native.Mathlib.Omega.{arith}
 use lib.ListN.{length, length-replicate}
-use Rattle.arena.specs.Lists.{filter}
 use Rattle.lazy.specs.Free.{nodes_below, reached, lowest_from, lowest_free, not_free}
 use Rattle.lazy.specs.Row.{holds, held, empty_row, Closed, Reaches}
 use Rattle.lazy.proofs.Passing.{passing_same}
@@ -21,7 +20,7 @@ empty_closed room h =
     }
 
 pub empty_held : (count room : ℕ) → held count (empty_row room) ≡ 0
-unfolding nodes_below filter
+unfolding nodes_below
 empty_held zero room = refl
 empty_held (suc count) room = rw (holds_none room count, empty_held count room)
 
@@ -32,11 +31,6 @@ reached_both next count [] second node = refl
 reached_both next count (root ∷ first) second node = rw (reached_both next count first second node, or_assoc)
 
 module _ {next : ℕ → ℕ} {count : ℕ} where
-  -- walks that began with an empty row
-  pub from_empty : {roots : List ℕ} {before after : List Bool} → before ≡ empty_row (length before) → Reaches next count roots before after →
-      (room : ℕ) × Reaches next count roots (empty_row room) after
-  from_empty {roots} {before} {after} e x = (length before, subst (λ row. Reaches next count roots row after) e x)
-
   -- walks from some roots, and then from others
   pub both : {first second : List ℕ} {a b c : List Bool} → Reaches next count first a b → Reaches next count second b c →
       Reaches next count (first ++ second) a c

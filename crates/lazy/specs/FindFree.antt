@@ -1,7 +1,6 @@
 -- find_free on an arena (document 02, A4).
-use Rattle.std.specs.Prelude.{ℕ, List, [], ◌∷◌}
+use Rattle.std.specs.Prelude.{ℕ, List, [], ◌∷◌, Option, Some, None}
 use Rattle.worker.specs.Node.{no_node}
-use Rattle.std.specs.Prelude.{Option, Some, None}
 use Rattle.words.specs.Layout.{layout_of, workers_of, nodes_of, node_width, node_part}
 use Rattle.words.specs.Records.{worker_at, next_at}
 use Rattle.words.specs.Replies.{Reply, replied}

@@ -1,10 +1,9 @@
 -- Which nodes are free, the lowest of them, and how many are not (document 01: the hunt; document 02, A4).
-use Rattle.std.specs.Prelude.{ℕ, zero, suc, ◌<◌, Bool, false, cond, ◌&&◌, ◌||◌, length, ltb, eqb}
+use Rattle.std.specs.Prelude.{ℕ, zero, suc, ◌<◌, Bool, false, cond, ◌&&◌, ◌||◌, length, ltb, eqb, Option, Some, None}
+use Rattle.std.specs.List.{filter}
 use mathlib.Core.List.{List, [], ◌∷◌, Memᴰ}
 use Rattle.worker.specs.Node.{head, tail}
-use Rattle.std.specs.Prelude.{Option, Some, None}
 use Rattle.worker.specs.declared.Worker.{Worker}
-use Rattle.arena.specs.Lists.{filter}
 use Rattle.lazy.specs.declared.Found.{Found}
 
 -- the roots: node 0, node 1, and the pred, curr and spare of every worker

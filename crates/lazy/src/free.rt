@@ -10,21 +10,21 @@ use crate::Found;
 use words::{Arena, Nodes, layout};
 use worker::{Node, Worker};
 
-// The lowest-numbered free node, and how many next words were read (document 01: the hunt; document 02, A4). The row is of
-// fixed length, for there is no heap; it must be cleared first, so a small arena gets a small one.
+// The lowest-numbered free node, and how many next words were read (document 01: the hunt; document 02, A4). The row, with a
+// place for each node, is cut from words of fixed length, for there is no heap; they must be cleared first, so a small arena gets few.
 pub(crate) fn search(arena: Arena) -> Found
     ensures { result ≡ found_in arena.entry.words.now }
 {
-    if arena.nodes().count <= 64 {
-        return search_with(&mut [false; 64], arena);
+    let count = arena.nodes().count as usize;
+    if count <= 64 {
+        return search_with(&mut [false; 64][..count], arena);
     }
-    search_with(&mut [false; 1024], arena)
+    search_with(&mut [false; 1024][..count], arena)
 }
 
-// The search with an empty row, which has room for every node.
+// The search with an empty row.
 fn search_with(reached: &mut [bool], arena: Arena) -> Found
-    requires empty { reached.old ≡ empty_row (length reached.old) }
-    requires room { nodes_of arena.words.now ≤ length reached.old }
+    requires { reached.old ≡ empty_row (nodes_of arena.words.now) }
     ensures { result ≡ found_in arena.entry.words.now }
 {
     let nodes = arena.nodes();
@@ -34,7 +34,7 @@ fn search_with(reached: &mut [bool], arena: Arena) -> Found
         reads = reach_worker(reached, nodes, arena.worker(number), reads);
     }
     Found {
-        free: lowest_unreached(reached, nodes.count as usize),
+        free: lowest_unreached(reached),
         reads,
     }
 }
@@ -42,17 +42,17 @@ fn search_with(reached: &mut [bool], arena: Arena) -> Found
 // Walks the next links from a root, and counts each that it reads. Where a node was reached before, so was all that follows it, and nothing
 // of it is read again. The row and the count are no struct: the check covers no fact beside a lent row, and without it a struct says no more.
 fn reach_from(reached: &mut [bool], nodes: Nodes, root: u16, reads: u16) -> u16
-    requires { Closed (next_at nodes.width nodes.words.now) nodes.count reached.old
+    requires places { length reached.old ≡ nodes.count }
+    requires so_far { Closed (next_at nodes.width nodes.words.now) nodes.count reached.old
         × (reads ≡ held nodes.count reached.old) }
     ensures walked { Reaches (next_at nodes.entry.width nodes.entry.words.now) nodes.entry.count (root ∷ [])
         reached.old reached.new }
     ensures counted { result ≡ held nodes.entry.count reached.new }
 {
-    let count = nodes.count as usize;
     let mut node = root as usize;
     let mut so_far = reads;
     // The links say where it goes on.
-    while node < count {
+    while node < reached.len() {
         if reached[node] {
             return so_far;
         }
@@ -65,7 +65,8 @@ fn reach_from(reached: &mut [bool], nodes: Nodes, root: u16, reads: u16) -> u16
 
 // The same from the three roots that a worker holds.
 fn reach_worker(reached: &mut [bool], nodes: Nodes, worker: Worker, reads: u16) -> u16
-    requires { Closed (next_at nodes.width nodes.words.now) nodes.count reached.old
+    requires places { length reached.old ≡ nodes.count }
+    requires so_far { Closed (next_at nodes.width nodes.words.now) nodes.count reached.old
         × (reads ≡ held nodes.count reached.old) }
     ensures walked { Reaches (next_at nodes.entry.width nodes.entry.words.now) nodes.entry.count
         (worker.pred ∷ worker.curr ∷ worker.spare ∷ []) reached.old reached.new }
@@ -85,11 +86,11 @@ fn next_of(nodes: Nodes, node: usize) -> u16
 }
 
 // The lowest node that was not reached.
-fn lowest_unreached(reached: &[bool], count: usize) -> Option<u16>
-    requires { (count ≤ length reached.now) × (count ≤ 1024) }
-    ensures { result ≡ lowest_from (holds reached.now) count 0 }
+fn lowest_unreached(reached: &[bool]) -> Option<u16>
+    requires { length reached.now ≤ 1024 }
+    ensures { result ≡ lowest_from (holds reached.now) (length reached.now) 0 }
 {
-    for node in skip_reached(reached, count)..count {
+    for node in skip_reached(reached)..reached.len() {
         if !reached[node] {
             return Some(node as u16);
         }
@@ -98,18 +99,17 @@ fn lowest_unreached(reached: &[bool], count: usize) -> Option<u16>
 }
 
 // Passes eight nodes at a time, as long as all of them were reached.
-fn skip_reached(reached: &[bool], count: usize) -> usize
-    requires { count ≤ length reached.now }
+fn skip_reached(reached: &[bool]) -> usize
     ensures held { AllHeld reached.now 0 result }
-    ensures within { result ≤ count }
+    ensures within { result ≤ length reached.now }
 {
-    for eight in 0..count / 8 {
+    for eight in 0..reached.len() / 8 {
         let node = eight * 8;
         if !(four_reached(reached, node) & four_reached(reached, node + 4)) {
             return node;
         }
     }
-    count / 8 * 8
+    reached.len() / 8 * 8
 }
 
 fn four_reached(reached: &[bool], node: usize) -> bool

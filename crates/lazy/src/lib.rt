@@ -69,7 +69,8 @@ fn see(arena: Arena, state: Worker) -> Seen
     }
 }
 
-// The node pred, for the stages that look at its next, owner or mark. Not one function with the next, as each matches its own stages.
+// The node pred, for the stages that look at its next, owner or mark; an unused one for the others, as in the definition. Not one function with
+// the next: it would be given which stages look, by two functions more.
 fn look_at_pred(nodes: Nodes, state: Worker) -> Node
     ensures { result ≡ looked_at (looks_at_pred state.stage) (node_at nodes.entry.width nodes.entry.words.now state.pred) }
 {

@@ -21,11 +21,12 @@ use Rattle.words.specs.Records.{worker_at}
 use Rattle.words.specs.Replies.{Reply, refused, accepted, replied}
 use Rattle.words.specs.Header.{header_refusals}
 use Rattle.words.proofs.Judged.{none_holds, numbered, judged_numbered, judged_accepted}
+use Rattle.words.specs.declared.entry.Entry.{Entry}
 use Rattle.arena.specs.Start.{call_refusals, start_refusals, start_arena}
 use Rattle.lazy.specs.Free.{roots_of}
 use Rattle.lazy.specs.Turn.{outcome_of, seen_of, seen_by, worker_refusals, turn_on, with_effect, turned_arena, turn_arena}
 use Rattle.lazy.proofs.InsideLaws.{effect_below}
-use Rattle.linear.specs.Entries.{Entry, is_turn, Event, call_started, turn_reported, entry_refused, turn_event, event_of, after}
+use Rattle.linear.specs.Entries.{is_turn, Event, call_started, turn_reported, entry_refused, turn_event, event_of, after}
 use Rattle.linear.proofs.State.{decode, stepped, start_step, seen_in, turn_step}
 use Rattle.linear.proofs.Stepped.{stepped_arena, known_record, header_stays, none_stays, state_steps}
 

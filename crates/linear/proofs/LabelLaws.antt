@@ -10,7 +10,8 @@ use native.Mathlib.Omega.{arith}
 use native.Mathlib.Decide.{ℕ_discrete}
 use lib.Dec.{ltb, eqb}
 use borrow.Author.Tests.{eqb-true, eqb-false, eq-eqb, ne_eqb, ltb-true, ltb-false}
-use Rattle.arena.specs.Lists.{filter, Each, none as nothing, ◌and◌, alone, ◌ahead◌}
+use Rattle.std.specs.List.{filter}
+use Rattle.arena.specs.Lists.{Each, none as nothing, ◌and◌, alone, ◌ahead◌}
 use Rattle.arena.specs.Sets.{Label, Rising, member, is_none}
 use Rattle.arena.proofs.ListLaws.{each_in, each_of, pairs_filter}
 use Rattle.linear.specs.Sequential.{including, excluding}
@@ -148,7 +149,7 @@ including_rises label (first ∷ labels) (above ahead rises) absent =
 
 -- a key taken out leaves those that pass a test, so they still rise
 excluding_filter : (key : ℕ) (labels : List Label) → excluding key labels ≡ filter (λ other. not (eqb key other.key)) labels
-unfolding excluding filter
+unfolding excluding
 excluding_filter key [] = refl
 excluding_filter key (first ∷ labels) =
     ⊎_elim (λ apart. rw apart (ap (λ later. first ∷ later) (excluding_filter key labels)))

@@ -7,9 +7,10 @@ use lib.ListN.{drop}
 use Rattle.words.specs.Layout.{total, good_counts, header_words}
 use Rattle.words.specs.Replies.{accepted}
 use Rattle.words.proofs.Judged.{judged_accepted}
+use Rattle.words.specs.declared.entry.Entry.{Entry}
 use Rattle.arena.specs.Init.{fresh_words, init_refusals, init_answer, init_arena}
 use Rattle.arena.proofs.FreshLaws.{init_passed}
-use Rattle.linear.specs.Entries.{Entry, event_of, after}
+use Rattle.linear.specs.Entries.{event_of, after}
 use Rattle.linear.specs.History.{entry_at, arena_at, event_at}
 use Rattle.linear.specs.Lent.{Unseen, AsFresh, LaidAsFresh}
 use Rattle.linear.proofs.State.{decode}

@@ -31,11 +31,12 @@ use Rattle.words.proofs.HeaderLaws.{Header}
 use Rattle.words.proofs.Judged.{none_holds, judged_numbered, judged_accepted}
 use Rattle.words.proofs.RecordLaws.{node_long}
 use Rattle.words.proofs.Runs.{sets_front}
+use Rattle.words.specs.declared.entry.Entry.{Entry}
 use Rattle.arena.specs.Start.{call_refusals, start_refusals, start_arena}
 use Rattle.lazy.specs.Turn.{outcome_of, seen_of, seen_by, turn_on, with_effect, turned_arena, turn_arena}
 use Rattle.lazy.proofs.TurnLaws.{turn_accepted}
 use Rattle.lazy.proofs.InsideLaws.{effect_below, field_inside}
-use Rattle.linear.specs.Entries.{Entry, is_turn, call_started, entry_refused, turn_event, event_of, after}
+use Rattle.linear.specs.Entries.{is_turn, call_started, entry_refused, turn_event, event_of, after}
 use Rattle.linear.specs.Lent.{Unseen, MoreUnseen}
 use Rattle.linear.proofs.State.{decode}
 use Rattle.linear.proofs.Words.{effect_long}

@@ -12,7 +12,9 @@ use lib.ListN.{length, get_or, set, length-append, get_or-append}
 use lib.Seq.{get_or-append_seam}
 use lib.Dec.{eqb}
 use borrow.Author.Tests.{ne_eqb}
-use Rattle.arena.specs.Lists.{filter, Pairs, ◌ahead◌}
+use Rattle.std.specs.List.{filter}
+use Rattle.std.proofs.lemmas.List.Elements.{filter-append}
+use Rattle.arena.specs.Lists.{Pairs, ◌ahead◌}
 use Rattle.arena.proofs.ListLaws.{each_in}
 use Rattle.linear.specs.Times.{times_from, first, latest}
 
@@ -54,14 +56,6 @@ module _ (test : ℕ → Bool) where
       first test from (suc left) ≡ from + left
   first_now from left some none holds = first_more from left some ∙ rw (none, holds)
 
--- the times that pass a test, with one time more
-pub filter_append : {A : Type 0} (test : A → Bool) (xs ys : List A) → filter test (xs ++ ys) ≡ filter test xs ++ filter test ys
-unfolding filter
-filter_append test [] ys = refl
-filter_append {A} test (x ∷ xs) ys =
-    ⊎_elim (λ fails. rw fails (filter_append test xs ys)) (λ holds. rw holds (ap (λ (l : List A). x ∷ l) (filter_append test xs ys)))
-    (dichotomy (test x))
-
 times_more : (from left : ℕ) → times_from from (suc left) ≡ times_from from left ++ ((from + left) ∷ [])
 unfolding times_from
 times_more from zero = rw add-zero
@@ -69,21 +63,20 @@ times_more from (suc left) =
     let later : from + suc left ≡ suc from + left = omega arith in
     rw later (ap (λ (l : List ℕ). from ∷ l) (times_more (suc from) left))
 
+-- the times that pass a test, with one time more
 abbrev pub passing : (ℕ → Bool) → ℕ → List ℕ
 passing test now = filter test (times_from 1 now)
 
 pub passing_more : (test : ℕ → Bool) (now : ℕ) → test (suc now) ≡ true → passing test (suc now) ≡ passing test now ++ (suc now ∷ [])
-unfolding filter
 passing_more test now holds =
-    ap (filter test) (times_more 1 now) ∙ filter_append test (times_from 1 now) ((1 + now) ∷ []) ∙ rw (one_more now, holds)
+    ap (filter test) (times_more 1 now) ∙ filter-append test (times_from 1 now) ((1 + now) ∷ []) ∙ rw (one_more now, holds)
   where
     one_more : (now : ℕ) → 1 + now ≡ suc now
     one_more now = omega arith
 
 pub passing_same : (test : ℕ → Bool) (now : ℕ) → test (suc now) ≡ false → passing test (suc now) ≡ passing test now
-unfolding filter
 passing_same test now fails =
-    ap (filter test) (times_more 1 now) ∙ filter_append test (times_from 1 now) ((1 + now) ∷ [])
+    ap (filter test) (times_more 1 now) ∙ filter-append test (times_from 1 now) ((1 + now) ∷ [])
     ∙ rw (one_more now, fails) (append-nil (passing test now))
   where
     one_more : (now : ℕ) → 1 + now ≡ suc now

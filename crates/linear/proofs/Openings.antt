@@ -2,6 +2,7 @@
 use Prim.Native.Nat.{ℕ, zero, suc, ◌≤◌, ◌<◌}
 use mathlib.Core.Path.{◌≡◌, sym, ap, subst, ◌∙◌}
 use mathlib.Core.Logic.{◌⊎◌, inl, inr, ⊎_elim, ◌≢◌}
+use mathlib.Core.List.Memᴰ
 use mathlib.Core.List.{Memᴰ}
 use mathlib.Core.Bool.{true, true≢false}
 use native.Mathlib.Omega.{arith}
@@ -11,7 +12,7 @@ use Rattle.worker.specs.Worker.{contains}
 use Rattle.worker.specs.declared.Worker.{Worker}
 use Rattle.worker.specs.declared.report.Step.{Step}
 use Rattle.arena.specs.Sets.{set_of}
-use Rattle.arena.proofs.ListLaws.{in_filter, in_map}
+use Rattle.arena.proofs.ListLaws.{in_filter}
 use Rattle.linear.specs.Entries.{turn_reported, is_started}
 use Rattle.linear.specs.History.{Call, is_decision, arena_at, calls}
 use Rattle.linear.specs.Order.{has_point, rank, in_order}
@@ -136,7 +137,7 @@ module _ (r : Schedule) where
   in_order_lem time starting upto point =
       in_sorted
       (in_filter has_point
-      (in_map (run_call_at r) (in_filter (run_starts_at r) (in_times 1 (last r) (suc time) (omega arith) (omega arith)) starting))
+      (Memᴰ.map (run_call_at r) (in_filter (run_starts_at r) (in_times 1 (last r) (suc time) (omega arith) (omega arith)) starting))
       (rw (ne_eqb _ 0 point)))
 
   -- the call of a turn that changes the set has its point there

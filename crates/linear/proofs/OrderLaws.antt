@@ -11,9 +11,10 @@ use mathlib.Mathlib.Data.Bool.Basic.{dichotomy}
 use native.Mathlib.Omega.{arith}
 use lib.Dec.{leb, ltb, eqb}
 use borrow.Author.Tests.{ltb-true, ltb-false, leb-true, leb-false, eqb-true, eqb-false}
-use Rattle.arena.specs.Lists.{filter, Each, none, ◌and◌, Pairs, alone, ◌ahead◌}
+use Rattle.std.specs.List.{filter}
+use Rattle.words.specs.declared.entry.Entry.{Entry}
+use Rattle.arena.specs.Lists.{Each, none, ◌and◌, Pairs, alone, ◌ahead◌}
 use Rattle.arena.proofs.ListLaws.{each_in, each_of, pairs_weaken}
-use Rattle.linear.specs.Entries.{Entry}
 use Rattle.linear.specs.History.{Call, calls}
 use Rattle.linear.specs.Order.{has_point, rank, Before, goes_before, inserted, sorted, in_order, Ordered}
 

@@ -2,19 +2,22 @@
 use Prim.Native.Nat.{ℕ, zero, suc, ◌+◌, ◌-◌, ◌≤◌, ◌<◌}
 use mathlib.Core.Path.{◌≡◌, sym, subst, ◌∙◌}
 use mathlib.Core.Logic.{⊎_elim, ◌≢◌, ◌↔◌}
+use mathlib.Core.List.Memᴰ
 use mathlib.Core.List.{List, Memᴰ}
 use mathlib.Core.Bool.{true, true≢false}
 use mathlib.Core.Option as option
 use native.Mathlib.Omega.{arith}
+use Rattle.std.specs.List.{filter}
 use Rattle.worker.specs.declared.refusal.Refusal.{Refusal}
 use Rattle.worker.specs.declared.refusal.Refusal.TheVariants.{NoSuchWorker, BrokenRecord, BrokenChain}
 use Rattle.worker.specs.declared.report.Report.{Report}
 use Rattle.words.specs.Layout.{good_counts}
+use Rattle.words.specs.declared.entry.Entry.{Entry}
 use Rattle.arena.specs.Init.{fresh_words}
-use Rattle.arena.specs.Lists.{filter, Pairs}
-use Rattle.arena.proofs.ListLaws.{from_filter, from_map, each_of, pairs_filter, pairs_weaken}
+use Rattle.arena.specs.Lists.{Pairs}
+use Rattle.arena.proofs.ListLaws.{from_filter, each_of, pairs_filter, pairs_weaken}
 use Rattle.arena.proofs.SetLaws.{set_rises, set_members}
-use Rattle.linear.specs.Entries.{Entry, turn_reported, entry_refused}
+use Rattle.linear.specs.Entries.{turn_reported, entry_refused}
 use Rattle.linear.specs.History.{Call, entry_at, arena_at, event_at, calls}
 use Rattle.linear.specs.Order.{has_point, rank, in_order, Before}
 use Rattle.linear.specs.Linearizable.{Linearizable, Unbroken, ExactSets, Resting, Waiting}
@@ -54,10 +57,10 @@ module _ (r : Schedule) where
       (time : ℕ) × (run_starts_at r (suc time) ≡ true) × (suc time ≤ last r) × (call ≡ run_call_at r (suc time))
   unfolding calls
   call_of m =
-      let mapped = from_map (run_call_at r) m in
+      let mapped = Memᴰ.of_map (run_call_at r) _ m in
       let passed = from_filter (run_starts_at r) mapped.1 in
       let placed = from_times 1 (last r) passed.0 in
-      later mapped.0 placed.0 placed.1 passed.1 mapped.2
+      later mapped.0 placed.0 placed.1 passed.1 (sym mapped.2)
     where
       later : {call : Call} (t : ℕ) → 1 ≤ t → t < 1 + (last r) → run_starts_at r t ≡ true → call ≡ run_call_at r t →
           (time : ℕ) × (run_starts_at r (suc time) ≡ true) × (suc time ≤ last r) × (call ≡ run_call_at r (suc time))

@@ -8,7 +8,8 @@ use mathlib.Core.Bool.{Bool, true, false}
 use mathlib.Mathlib.Data.Bool.Basic.{dichotomy}
 use native.Mathlib.Omega.{arith}
 use native.Mathlib.Decide.{ℕ_discrete, dec_lt}
-use Rattle.arena.specs.Lists.{filter, Pairs, alone, ◌ahead◌}
+use Rattle.std.specs.List.{filter}
+use Rattle.arena.specs.Lists.{Pairs, alone, ◌ahead◌}
 use Rattle.arena.proofs.ListLaws.{from_filter, each_of, pairs_map}
 use Rattle.linear.specs.Times.{times_from, first}
 
@@ -95,7 +96,7 @@ from_times time (suc left) m =
 pub pairs_times : (test : ℕ → Bool) (R : ℕ → ℕ → Type 0) (time left : ℕ) →
     ((s t : ℕ) → time ≤ s → s < t → t < time + left → test s ≡ true → test t ≡ true → R s t) →
     Pairs R (filter test (times_from time left))
-unfolding filter times_from
+unfolding times_from
 pairs_times test R time zero holds = alone
 pairs_times test R time (suc left) holds =
     let later = pairs_times test R (suc time) left (λ s t h k l. holds s t (omega arith) k (omega arith)) in

@@ -16,9 +16,10 @@ use Rattle.worker.proofs.TurnLaws.{step_row}
 use Rattle.words.specs.Layout.{good_counts, node_width, has_length}
 use Rattle.words.specs.Records.{worker_at}
 use Rattle.words.proofs.Bounds.{counts}
+use Rattle.words.specs.declared.entry.Entry.{Entry}
 use Rattle.arena.specs.Init.{fresh_words}
 use Rattle.arena.specs.Sets.{member, set_of}
-use Rattle.linear.specs.Entries.{Entry, Event, call_started, turn_reported, entry_refused, is_started, is_reported, is_finished, event_of}
+use Rattle.linear.specs.Entries.{Event, call_started, turn_reported, entry_refused, is_started, is_reported, is_finished, event_of}
 use Rattle.linear.specs.History.{Call, entry_at, arena_at, event_at, decides_at, finishes_at, starts_at, call_at, calls}
 use Rattle.linear.specs.Order.{in_order}
 use Rattle.linear.proofs.LabelLaws.{find}

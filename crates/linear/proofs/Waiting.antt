@@ -1,6 +1,7 @@
 -- A wait is a turn of the call that it names, and the worker in the way is another one, and busy.
 use Prim.Native.Nat.{ℕ, zero, suc, ◌+◌, ◌-◌, ◌≤◌, ◌<◌}
 use mathlib.Core.Path.{◌≡◌, refl, sym, ap, subst, ◌∙◌}
+use mathlib.Core.List.Memᴰ
 use mathlib.Core.Logic.{◌⊎◌, inl, ⊎_elim, ◌≢◌}
 use mathlib.Core.List.{List}
 use mathlib.Core.Bool.{true, false, true≢false, and-eq-true_iff}
@@ -11,14 +12,15 @@ use native.Mathlib.Decide.{dec_lt}
 use lib.ListN.{length, get_or, length-map, get_or-map}
 use lib.Dec.{eqb}
 use borrow.Author.Tests.{eqb-true, eq-eqb, ne_eqb}
+use Rattle.std.specs.List.{filter}
 use Rattle.worker.specs.declared.Worker.{Worker}
 use Rattle.worker.specs.declared.report.Report.TheVariants as report
 use Rattle.worker.specs.declared.report.Effect.TheVariants.{Nothing}
 use Rattle.words.specs.Layout.{node_owner}
 use Rattle.words.specs.Records.{worker_at}
-use Rattle.arena.specs.Lists.{filter}
-use Rattle.arena.proofs.ListLaws.{from_map, from_filter}
-use Rattle.linear.specs.Entries.{Entry, Event, call_started, turn_reported, entry_refused, is_waits, is_finished, event_values}
+use Rattle.words.specs.declared.entry.Entry.{Entry}
+use Rattle.arena.proofs.ListLaws.{from_filter}
+use Rattle.linear.specs.Entries.{Event, call_started, turn_reported, entry_refused, is_waits, is_finished, event_values}
 use Rattle.linear.specs.History.{arena_at, starts_call_of, call_number, finish_of, call_at, calls, times, waits_at, wait_at, waits, totals}
 use Rattle.linear.specs.Linearizable.{Blocked, Waiting}
 use Rattle.linear.proofs.TimeLaws.{from_times, first_past}
@@ -169,9 +171,9 @@ module _ (r : Schedule) where
   pub all_blocked : Waiting r.initial r.entries
   unfolding waits
   all_blocked wait m =
-      let found = from_map (wait_at r.initial r.entries) m in
+      let found = Memᴰ.of_map (wait_at r.initial r.entries) _ m in
       let kept = from_filter (waits_at r.initial r.entries) found.1 in
-      rw found.2 (go found.0 (from_times 1 (last r) kept.0) kept.1)
+      rw (← found.2) (go found.0 (from_times 1 (last r) kept.0) kept.1)
     where
       go : (time : ℕ) → (1 ≤ time) × (time < 1 + last r) → waits_at r.initial r.entries time ≡ true →
           Blocked r.initial r.entries (wait_at r.initial r.entries time)

@@ -5,19 +5,13 @@ use Rattle.worker.specs.declared.refusal.Refusal.{Refusal}
 use Rattle.worker.specs.Report.{report_values}
 use Rattle.worker.specs.declared.report.Report.{Report}
 use Rattle.worker.specs.declared.report.Report.TheVariants as report
+use Rattle.words.specs.Entries.{turn}
+use Rattle.words.specs.declared.entry.Entry.{Entry}
 use Rattle.arena.specs.Start.{start_refusals, start_arena}
 use Rattle.lazy.specs.Turn.{outcome_of, turn_on, turn_arena}
 
--- an entry: worker, act, key, and the length that a start carries (key and length not looked at for a turn)
-pub record Entry : Type 0 where
-  pub worker : ℕ
-  pub act : ℕ
-  pub key : ℕ
-  pub length : ℕ
-
--- act 0 is a turn; every other act is a start of the operation with that number, so one above 3 is a start with a bad operation
 abbrev pub is_turn : Entry → Bool
-is_turn entry = eqb entry.act 0
+is_turn entry = eqb entry.act turn
 
 -- what an entry comes to: a call is started, a turn reports, or the entry is refused
 pub data Event : Type 0 where

@@ -1,14 +1,15 @@
 -- The history of a list of entries: its times, its calls with start, point, finish and answer, and its waits, read off the entries and the
 -- stages.
 use Rattle.std.specs.Prelude.{ℕ, zero, suc, ◌-◌, List, map, Bool, cond, not, ◌&&◌, ◌||◌, length, get_or, eqb}
+use Rattle.std.specs.List.{filter}
 use Rattle.worker.specs.Worker.{contains, within}
 use Rattle.worker.specs.Report.{answer_number}
 use Rattle.worker.specs.declared.report.Answer.TheVariants.{No, Full}
 use Rattle.words.specs.Records.{worker_at}
-use Rattle.arena.specs.Lists.{filter}
+use Rattle.words.specs.declared.entry.Entry.{Entry}
 use Rattle.arena.specs.Sets.{member, set_of}
 use Rattle.linear.specs.Times.{times_from, first, latest}
-use Rattle.linear.specs.Entries.{Entry, Event, event_of, after, is_started, is_reported, is_refused, is_waits, is_finished, event_values}
+use Rattle.linear.specs.Entries.{Event, event_of, after, is_started, is_reported, is_refused, is_waits, is_finished, event_values}
 
 -- a call record: worker, operation, key, start, point, finish, answer; 0 stands for a point or finish not reached, and for the answer
 -- of a call without a point. Beside them the length that its start carries, which no row of records has

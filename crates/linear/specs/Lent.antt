@@ -3,8 +3,9 @@ use Rattle.std.specs.Prelude.{ℕ, ◌≡◌, List, [], ◌++◌, drop}
 use Rattle.words.specs.Layout.{total}
 use Rattle.words.specs.Replies.{accepted, replied}
 use Rattle.words.specs.Header.{header_refusals}
+use Rattle.words.specs.declared.entry.Entry.{Entry}
 use Rattle.arena.specs.Init.{fresh_words, init_answer, init_arena}
-use Rattle.linear.specs.Entries.{Entry, event_of, after}
+use Rattle.linear.specs.Entries.{event_of, after}
 use Rattle.linear.specs.History.{arena_at, event_at}
 use Rattle.linear.specs.Linearizable.{Linearizable, Unbroken, ExactSets, Resting, Waiting}
 use Rattle.linear.specs.Snapshots.{TrueSnapshots}

@@ -7,8 +7,9 @@ use Rattle.worker.specs.declared.report.Answer.TheVariants.{Yes, No}
 use Rattle.worker.specs.declared.report.Report.TheVariants.{Finished}
 use Rattle.words.specs.Layout.{workers_of, nodes_of}
 use Rattle.words.specs.Records.{worker_at}
+use Rattle.words.specs.declared.entry.Entry.{Entry}
 use Rattle.arena.specs.Snapshot.{keys_of, Listed}
-use Rattle.linear.specs.Entries.{Entry, call_started, turn_reported, event_of, after}
+use Rattle.linear.specs.Entries.{call_started, turn_reported, event_of, after}
 use Rattle.linear.specs.History.{arena_at}
 
 -- the start of a worker's contains, and its turn

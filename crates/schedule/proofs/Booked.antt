@@ -18,7 +18,6 @@ use Rattle.words.specs.Layout.{workers_of}
 use Rattle.words.specs.Records.{worker_at}
 use Rattle.words.proofs.Bounds.{counts}
 use Rattle.arena.specs.Sets.{member, set_of}
-use Rattle.arena.specs.Lists.{filter}
 use Rattle.linear.specs.Times.{times_from}
 use Rattle.linear.specs.Entries.{Event, call_started, turn_reported, entry_refused, is_started, is_reported, is_refused, is_waits}
 use Rattle.linear.specs.History.{arena_at, event_at}
@@ -49,7 +48,7 @@ module _ (r : Schedule) where
         get_or book.absent (entry r origin).worker 0 ≡ absent_by r (entry r origin).key (suc origin) now
 
   pub booked_first : Booked 0 new_book
-  unfolding filter times_from
+  unfolding times_from
   booked_first =
       record {
         calls_are = refl;

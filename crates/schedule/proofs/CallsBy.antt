@@ -6,8 +6,8 @@ use mathlib.Core.Bool.{true, false, cond, and-false}
 use native.Mathlib.Omega.{arith}
 use lib.Dec.{eqb}
 use borrow.Author.Tests.{ne_eqb}
+use Rattle.words.specs.declared.entry.Entry.{Entry}
 use Rattle.linear.specs.Times.{first}
-use Rattle.linear.specs.Entries.{Entry}
 use Rattle.linear.specs.History.{Call, entry_at, finish_of, decision_of, answer_of, point_of, call_at}
 use Rattle.linear.proofs.TimeLaws.{first_none, first_found}
 use Rattle.linear.proofs.Timeline.{Schedule, Begun, last, entry, decisive, finishing, run_call_at}

@@ -1,5 +1,5 @@
--- The entries of a schedule, four words after four words.
-use Prim.Native.Nat.{ℕ, zero, suc, ◌+◌, ◌*◌, ◌≤◌, ◌<◌, ◌/◌}
+-- How many entries of a schedule pass a test, and what an entry waits for.
+use Prim.Native.Nat.{ℕ, zero, suc, ◌+◌, ◌≤◌, ◌/◌}
 use mathlib.Core.Path.{◌≡◌, refl, ap}
 use mathlib.Core.List.{List, [], ◌∷◌, map}
 use mathlib.Core.Bool.{Bool, true, false, cond, not, and-false}
@@ -7,52 +7,23 @@ use native.Mathlib.Omega.{arith}
 use lib.ListN.{length}
 use lib.Dec.{leb, ltb, eqb}
 use borrow.Author.Tests.{lt-leb, ne_eqb, lt-ltb, le-ltb, leb-true, leb-false}
-use Rattle.std.specs.Simd.{first_chunks}
-use Rattle.std.specs.List.{count_by}
+use Rattle.std.specs.List.{count_by, filter}
 use Rattle.std.proofs.lemmas.List.Recursion.{is_count_by}
+use Rattle.std.proofs.lemmas.List.Sums.{length-filter, count_by-le-length}
 use Rattle.worker.specs.Worker.{within}
 use Rattle.worker.specs.Refusals.{Test, judged}
+use Rattle.words.specs.Entries.{entry_width, first_entry, entries_of}
+use Rattle.words.proofs.EntryLaws.{entries_quotient}
+use Rattle.words.specs.declared.entry.Entry.{Entry}
 use Rattle.arena.specs.Start.{start_refusals}
-use Rattle.arena.specs.Lists.{filter}
-use Rattle.arena.proofs.ListLaws.{filter_shorter}
-use Rattle.linear.specs.Entries.{Entry, call_started, entry_refused, is_turn, is_waits, event_of}
-use Rattle.schedule.specs.Run.{entry_width, entries_of, count_in}
-use Rattle.schedule.specs.Book.{given, first_entry}
-
--- how many there are
-entries_fit : (schedule : List ℕ) →
-    (length (entries_of schedule) * entry_width ≤ length schedule)
-    × (length schedule < length (entries_of schedule) * entry_width + entry_width)
-unfolding entries_of
-entries_fit [] = (omega arith, omega arith)
-entries_fit (worker ∷ []) = (omega arith, omega arith)
-entries_fit (worker ∷ act ∷ []) = (omega arith, omega arith)
-entries_fit (worker ∷ act ∷ key ∷ []) = (omega arith, omega arith)
-entries_fit (worker ∷ act ∷ key ∷ cells ∷ words) = let others = entries_fit words in (omega arith, omega arith)
-
-pub entries_quotient : (schedule : List ℕ) → length schedule / entry_width ≡ length (entries_of schedule)
-entries_quotient schedule = let fit = entries_fit schedule in omega arith
-
--- each is made of a chunk of four words
-abbrev pub entries : List (List ℕ) → List Entry
-entries chunks = map (λ words. given (first_entry words)) chunks
-
-by_count : (schedule : List ℕ) → entries (first_chunks entry_width (length (entries_of schedule)) schedule) ≡ entries_of schedule
-unfolding entries_of
-by_count [] = refl
-by_count (worker ∷ []) = refl
-by_count (worker ∷ act ∷ []) = refl
-by_count (worker ∷ act ∷ key ∷ []) = refl
-by_count (worker ∷ act ∷ key ∷ cells ∷ words) = ap (λ others. given (first_entry (worker ∷ act ∷ key ∷ cells ∷ [])) ∷ others) (by_count words)
-
-pub entries_chunked : (schedule : List ℕ) → entries (first_chunks entry_width (length schedule / entry_width) schedule) ≡ entries_of schedule
-entries_chunked schedule = rw (entries_quotient schedule) (by_count schedule)
+use Rattle.linear.specs.Entries.{call_started, entry_refused, is_turn, is_waits, event_of}
+use Rattle.schedule.specs.Run.{count_in}
 
 -- those that pass a test
-pub counted : (test : Entry → Bool) (chunks : List (List ℕ)) → count_in test (entries chunks) ≡ count_by (λ words. test (given (first_entry words))) chunks
-unfolding count_in filter
-counted test = is_count_by (λ chunks. count_in test (entries chunks)) (λ words. test (given (first_entry words))) refl
-    (λ words others. go (test (given (first_entry words))) (given (first_entry words)) (filter test (entries others)))
+pub counted : (test : Entry → Bool) (chunks : List (List ℕ)) → count_in test (map first_entry chunks) ≡ count_by (λ words. test (first_entry words)) chunks
+unfolding count_in
+counted test = is_count_by (λ chunks. count_in test (map first_entry chunks)) (λ words. test (first_entry words)) refl
+    (λ words others. go (test (first_entry words)) (first_entry words) (filter test (map first_entry others)))
   where
     go : (is : Bool) (entry : Entry) (others : List Entry) → length (cond is (entry ∷ others) others) ≡ cond is (1 + length others) (length others)
     go true entry others = omega arith
@@ -60,11 +31,11 @@ counted test = is_count_by (λ chunks. count_in test (entries chunks)) (λ words
 
 pub count_few : (test : Entry → Bool) (schedule : List ℕ) → count_in test (entries_of schedule) ≤ length schedule / entry_width
 unfolding count_in
-count_few test schedule = let fit = entries_fit schedule in omega (arith, filter_shorter test (entries_of schedule))
+count_few test schedule = omega (arith, entries_quotient schedule, length-filter test (entries_of schedule), count_by-le-length test (entries_of schedule))
 
 -- the turns among them are those with acts from 0 to 0
 pub turns_within : (entries : List Entry) → count_in (λ entry. within 0 0 entry.act) entries ≡ count_in is_turn entries
-unfolding count_in filter
+unfolding count_in
 turns_within [] = refl
 turns_within (entry ∷ entries) =
     let same : within 0 0 entry.act ≡ is_turn entry = zero_only entry.act in

@@ -12,11 +12,13 @@ use Rattle.words.specs.Layout.{layout2, good_counts, total}
 use Rattle.worker.specs.declared.refusal.Refusal.{Refusal}
 use Rattle.words.specs.Replies.{accepted, replied}
 use Rattle.words.proofs.Judged.{none_holds}
+use Rattle.words.specs.Entries.{entries_of, entry_width}
+use Rattle.words.specs.declared.entry.Entry.{Entry}
 use Rattle.arena.specs.Init.{fresh_words}
-use Rattle.linear.specs.Entries.{Entry, is_turn}
+use Rattle.linear.specs.Entries.{is_turn}
 use Rattle.linear.specs.History.{totals, calls, waits}
 use Rattle.linear.proofs.Waiting.{waits_counted}
-use Rattle.schedule.specs.Run.{entry_width, entries_of, is_operation, count_in, is_bad_schedule, run_refusals, run_answer, run_arena, record_of, records_of, wait_of, waits_of}
+use Rattle.schedule.specs.Run.{is_operation, count_in, is_bad_schedule, run_refusals, run_answer, run_arena, record_of, records_of, wait_of, waits_of}
 use Rattle.schedule.proofs.EntryLaws.{count_few}
 
 neither : (a b : Bool) → (a || b) ≡ false → (a ≡ false) × (b ≡ false)

@@ -14,10 +14,10 @@ use Rattle.linear.proofs.Phases.{not_decided, not_finished}
 use Rattle.linear.proofs.Waiting.{starts}
 use Rattle.schedule.specs.declared.Call.{Call}
 use Rattle.schedule.specs.declared.book.Book.{Book}
-use Rattle.schedule.specs.Records.{flat_words}
+use Rattle.words.specs.Flat.{flat_words}
 use Rattle.schedule.specs.Run.{record_of, call_width, call_words, call_laws}
 use Rattle.schedule.specs.Book.{with_call, new_call, next_book, next_calls, calls_after}
-use Rattle.schedule.proofs.Flat.{held_by, held_more}
+use Rattle.words.proofs.FlatLaws.{held_by, held_more}
 use Rattle.schedule.proofs.CallsBy.{call_new}
 use Rattle.schedule.proofs.Booked.{Booked, booked_event}
 use Rattle.schedule.proofs.Written.{record_by, records, held, all_still}

@@ -14,10 +14,10 @@ use Rattle.linear.proofs.OpenCalls.{At, open_at}
 use Rattle.linear.proofs.Waiting.{open_number, waiter_busy}
 use Rattle.schedule.specs.declared.Wait.{Wait}
 use Rattle.schedule.specs.declared.book.Book.{Book}
-use Rattle.schedule.specs.Records.{with_record}
+use Rattle.words.specs.Flat.{with_record}
 use Rattle.schedule.specs.Run.{wait_of, wait_width, wait_words, wait_laws}
 use Rattle.schedule.specs.Book.{next_waits, waits_after}
-use Rattle.schedule.proofs.Flat.{held_by, held_more}
+use Rattle.words.proofs.FlatLaws.{held_by, held_more}
 use Rattle.schedule.proofs.Booked.{Booked}
 use Rattle.schedule.proofs.Written.{number_is}
 

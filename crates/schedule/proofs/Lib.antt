@@ -1,7 +1,6 @@
 -- The proof that a run tells the history of its schedule.
 pub mod EntryLaws
 pub mod HistoryLaws
-pub mod Flat
 pub mod Presence
 pub mod BookLaws
 pub mod CallsBy

@@ -2,6 +2,7 @@
 use Prim.Native.Nat.{ℕ, ◌≤◌, ◌<◌}
 use mathlib.Core.Path.{◌≡◌, refl, sym, ap, ◌∙◌}
 use mathlib.Core.Logic.{◌≢◌}
+use mathlib.Core.List.Memᴰ
 use mathlib.Core.List.{List, [], ◌∷◌, Memᴰ, map}
 use mathlib.Core.Bool.{Bool, true, false, cond, ◌&&◌, ◌||◌}
 use mathlib.Mathlib.Data.Bool.Basic.{eq-false-eq-not-eq-true}
@@ -9,11 +10,11 @@ use native.Mathlib.Omega.{arith}
 use native.Mathlib.Decide.{ℕ_discrete}
 use lib.Dec.{eqb}
 use borrow.Author.Tests.{eq-eqb, ne_eqb}
+use Rattle.std.specs.List.{filter}
 use Rattle.worker.specs.Node.{head, tail}
 use Rattle.words.specs.Layout.{layout_of, nodes_of, node_width, node_part}
-use Rattle.arena.specs.Lists.{filter}
 use Rattle.arena.specs.Sets.{Label, member, is_unmarked, chain_labels, node_in, label_in, ChainWhole, set_of}
-use Rattle.arena.proofs.ListLaws.{from_filter, from_map}
+use Rattle.arena.proofs.ListLaws.{from_filter}
 use Rattle.arena.proofs.SetLaws.{key_of, next_of, chain_of, Walked, ended, passed, walked_above, whole_walked}
 use Rattle.linear.proofs.LabelLaws.{present_find, from_find}
 
@@ -42,13 +43,13 @@ module _ (arena : List ℕ) (key : ℕ) where
       (eq-false-eq-not-eq-true (among nodes)).0
       (λ there.
       let it = present_find key (map (label_in arena) (filter unmarked nodes)) there in
-      let found = from_map (label_in arena) {xs = filter unmarked nodes} (from_find key it.0 _ it.1) in
+      let found = Memᴰ.of_map (label_in arena) (filter unmarked nodes) (from_find key it.0 _ it.1) in
       omega (arith, ap (λ (label : Label). label.key) found.2, above found.0 (from_filter unmarked found.1).0))
 
   -- the first of some nodes has the key or not, and then the others
   among_first : (node : ℕ) (nodes : List ℕ) →
       among (node ∷ nodes) ≡ ((eqb key (key_of arena node) && unmarked node) || among nodes)
-  unfolding filter member
+  unfolding member
   among_first node nodes = go (unmarked node)
     where
       go : (passes : Bool) →
@@ -80,7 +81,7 @@ module _ (arena : List ℕ) (key : ℕ) where
   none_left (passed off low above onward) there = absurd (off there)
 
   pub at_tail : {last next : ℕ} → Ahead last next → next ≡ tail → false ≡ member key (set_of arena)
-  unfolding filter member
+  unfolding member
   at_tail ahead there = sym (ahead.left ∙ ap among (none_left ahead.walked there))
 
   -- before Tail there is a node, with a key above the last

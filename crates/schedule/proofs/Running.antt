@@ -10,28 +10,31 @@ use native.Mathlib.Numerals.{add-one, sub-one}
 use lib.ListN.{length, get_or, take, drop, length-map, get_or-map, length-append, take-append-drop, drop_of_length-le}
 use lib.Seq.{take-suc}
 use borrow.Author.Tests.{le-ltb}
+use Rattle.std.specs.List.{filter}
+use Rattle.std.proofs.lemmas.List.Elements.{filter-append}
 use Rattle.worker.proofs.Laws.{call_parts}
 use Rattle.worker.proofs.RefusalLaws.{none_accepts}
 use Rattle.words.specs.Layout.{layout2, good_counts, total}
 use Rattle.words.specs.Replies.{accepted, refusing}
 use Rattle.words.specs.Header.{header_refusals}
 use Rattle.arena.specs.Init.{fresh_words, init_refusals, init_arena}
-use Rattle.arena.specs.Lists.{filter}
 use Rattle.linear.specs.Times.{times_from}
-use Rattle.linear.specs.Entries.{Entry, is_turn, is_started, is_refused, is_waits, after}
+use Rattle.linear.specs.Entries.{is_turn, is_started, is_refused, is_waits, after}
 use Rattle.linear.specs.History.{entry_at, arena_at, event_at, call_at, calls, wait_at, waits as all_waits, totals}
-use Rattle.linear.proofs.MoreTimes.{passing, passing_count, filter_append, map_same}
+use Rattle.linear.proofs.MoreTimes.{passing, passing_count, map_same}
 use Rattle.linear.proofs.Members.{whole}
 use Rattle.linear.proofs.Timeline.{fresh_schedule, Schedule, Happens, nothing, start, turn, happens, arena, state, entry, outcome_is, run_starts_at, sound, always, last}
 use Rattle.linear.proofs.Waiting.{starts}
 use Rattle.schedule.specs.declared.book.Book.{Book}
-use Rattle.schedule.specs.Run.{entries_of, is_operation, count_in, record_of, records_of, wait_of, waits_of, told, totals_of}
+use Rattle.schedule.specs.Run.{is_operation, count_in, record_of, records_of, wait_of, waits_of, told, totals_of}
 use Rattle.schedule.specs.Run.{call_width, call_words, call_laws, wait_width, wait_words, wait_laws}
-use Rattle.schedule.specs.Records.{flat_words}
-use Rattle.schedule.specs.Book.{given, first_entry, new_book, InOrder, Roomy, book_after, calls_after, waits_after}
-use Rattle.schedule.proofs.EntryLaws.{entries_quotient, start_silent}
-use Rattle.schedule.proofs.EntryLaws.{entries}
-use Rattle.schedule.proofs.Flat.{flat_length}
+use Rattle.words.specs.Flat.{flat_words}
+use Rattle.schedule.specs.Book.{new_book, InOrder, Roomy, book_after, calls_after, waits_after}
+use Rattle.words.proofs.EntryLaws.{entries_quotient}
+use Rattle.words.specs.Entries.{entries_of, first_entry}
+use Rattle.words.specs.declared.entry.Entry.{Entry}
+use Rattle.schedule.proofs.EntryLaws.{start_silent}
+use Rattle.words.proofs.FlatLaws.{flat_length}
 use Rattle.schedule.proofs.CallsBy.{call_last}
 use Rattle.schedule.proofs.Booked.{Booked, booked_first, booked_next}
 use Rattle.schedule.proofs.Written.{record_by, held}
@@ -43,11 +46,11 @@ nobody = record { worker = 0; act = 0; key = 0; length = 0 }
 
 -- an entry as the code reads it
 abbrev read : List (List ℕ) → ℕ → Entry
-read chunks k = given (first_entry (get_or chunks k []))
+read chunks k = first_entry (get_or chunks k [])
 
 -- no more times pass than there are
 passing_few : (test : ℕ → Bool) (now : ℕ) → length (passing test now) ≤ now
-unfolding filter times_from
+unfolding times_from
 passing_few test zero = omega arith
 passing_few test (suc now) = rw (passing_count test now) (go (test (suc now)) (passing_few test now))
   where
@@ -70,10 +73,10 @@ module _ (r : Schedule) (test : ℕ → Bool) (kind : Entry → Bool) (has : (no
   nth_is now = rw sub-one
 
   upto_more : (now : ℕ) → now < last r → upto (suc now) ≡ cond (kind (nth now)) (suc (upto now)) (upto now)
-  unfolding count_in filter
+  unfolding count_in
   upto_more now inside =
       ap (λ xs. length (filter kind xs)) (take-suc r.entries now nobody inside)
-      ∙ ap length (filter_append kind (take now r.entries) (nth now ∷ []))
+      ∙ ap length (filter-append kind (take now r.entries) (nth now ∷ []))
       ∙ length-append (filter kind (take now r.entries)) (filter kind (nth now ∷ []))
       ∙ go (kind (nth now))
     where
@@ -82,7 +85,7 @@ module _ (r : Schedule) (test : ℕ → Bool) (kind : Entry → Bool) (has : (no
       go false = omega arith
 
   few_pass : (now : ℕ) → now ≤ last r → length (passing test now) ≤ upto now
-  unfolding count_in filter times_from
+  unfolding count_in times_from
   few_pass zero past = omega arith
   few_pass (suc now) past =
       rw (passing_count test now, upto_more now past)
@@ -100,7 +103,7 @@ module _ (r : Schedule) (test : ℕ → Bool) (kind : Entry → Bool) (has : (no
   passing_fit now past =
       let all : length (filter kind r.entries) ≡ upto now + length (filter kind (drop now r.entries))
       = ap (λ xs. length (filter kind xs)) (sym (take-append-drop now r.entries))
-      ∙ ap length (filter_append kind (take now r.entries) (drop now r.entries))
+      ∙ ap length (filter-append kind (take now r.entries) (drop now r.entries))
       ∙ length-append (filter kind (take now r.entries)) (filter kind (drop now r.entries)) in
       omega (arith, few_pass now past)
 
@@ -147,7 +150,7 @@ module _ (workers nodes : ℕ) (schedule lent lent_waits : List ℕ) where
 
   pub begins : (words : List ℕ) → good_counts layout2 workers nodes ≡ true → length words ≡ total layout2 workers nodes →
       Running 0 new_book (init_arena words layout2 workers nodes) lent lent_waits
-  unfolding arena_at filter times_from flatten
+  unfolding arena_at times_from flatten
   begins words good just =
       record {
         good = good;
@@ -212,15 +215,15 @@ module _ (workers nodes : ℕ) (schedule lent lent_waits : List ℕ) where
           }
 
       -- in the words of the code, which goes through the chunks
-      next_is : (chunks : List (List ℕ)) → entries chunks ≡ entries_of schedule → next ≡ read chunks done
+      next_is : (chunks : List (List ℕ)) → map first_entry chunks ≡ entries_of schedule → next ≡ read chunks done
       unfolding entry_at
-      next_is chunks each = rw (sub-one, ← each) (get_or-map (λ words. given (first_entry words)) chunks done [])
+      next_is chunks each = rw (sub-one, ← each) (get_or-map first_entry chunks done [])
 
-      pub may_enter : (chunks : List (List ℕ)) → entries chunks ≡ entries_of schedule → length schedule ≤ 16000 →
+      pub may_enter : (chunks : List (List ℕ)) → map first_entry chunks ≡ entries_of schedule → length schedule ≤ 16000 →
           Roomy book × InOrder (after words (read chunks done))
       may_enter chunks each few = (roomy few, subst (λ x. InOrder (after words x)) (next_is chunks each) in_order)
 
-      pub entered : (chunks : List (List ℕ)) → entries chunks ≡ entries_of schedule → call_width * count_in is_operation (entries_of schedule) ≤ length lent →
+      pub entered : (chunks : List (List ℕ)) → map first_entry chunks ≡ entries_of schedule → call_width * count_in is_operation (entries_of schedule) ≤ length lent →
           wait_width * count_in is_turn (entries_of schedule) ≤ length lent_waits → {words' history' waits' : List ℕ} {book' : Book} →
           words' ≡ after words (read chunks done) → history' ≡ calls_after words (done + 1) (read chunks done) book history →
           waits' ≡ waits_after words (done + 1) (read chunks done) book waits →

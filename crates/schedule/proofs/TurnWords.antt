@@ -30,7 +30,7 @@ use Rattle.linear.proofs.OpenCalls.{open_next, At, open_at}
 use Rattle.linear.proofs.Waiting.{starts}
 use Rattle.schedule.specs.declared.Call.{Call}
 use Rattle.schedule.specs.declared.book.Book.{Book}
-use Rattle.schedule.specs.Records.{flat_words}
+use Rattle.words.specs.Flat.{flat_words}
 use Rattle.schedule.specs.Run.{record_of, call_width, call_words}
 use Rattle.schedule.specs.Book as book
 use Rattle.schedule.specs.Book.{call_in, finished_call, decided_call, decision_point, with_finish, with_decision, next_book, next_calls}

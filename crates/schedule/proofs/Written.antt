@@ -16,10 +16,10 @@ use Rattle.linear.proofs.OpenCalls.{only_open, At}
 use Rattle.linear.proofs.Waiting.{starts}
 use Rattle.schedule.specs.declared.Call.{Call}
 use Rattle.schedule.specs.declared.book.Book.{Book}
-use Rattle.schedule.specs.Records.{flat_words}
+use Rattle.words.specs.Flat.{flat_words}
 use Rattle.schedule.specs.Run.{record_of, call_width, call_words, call_laws}
 use Rattle.schedule.specs.Book.{call_in, with_call}
-use Rattle.schedule.proofs.Flat.{held_by, flat_read, flat_write}
+use Rattle.words.proofs.FlatLaws.{held_by, flat_read, flat_write}
 use Rattle.schedule.proofs.CallsBy.{finish_by, call_by, call_done, call_quiet, open_or_done}
 use Rattle.schedule.proofs.Booked.{Booked}
 

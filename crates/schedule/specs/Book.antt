@@ -9,22 +9,14 @@ use Rattle.words.specs.Layout.{workers_of}
 use Rattle.words.specs.Header.{header_refusals}
 use Rattle.words.specs.Replies.{accepted, replied}
 use Rattle.words.specs.Records.{worker_at}
+use Rattle.words.specs.Flat.{record_in, with_record}
+use Rattle.words.specs.declared.entry.Entry.{Entry}
 use Rattle.arena.specs.Sets.{member, is_none, walk_of, set_of}
-use Rattle.linear.specs.Entries.{Entry, Event, call_started, turn_reported, entry_refused, event_of, after}
+use Rattle.linear.specs.Entries.{Event, call_started, turn_reported, entry_refused, event_of, after}
 use Rattle.linear.specs.History.{is_decision, is_late}
 use Rattle.schedule.specs.declared.Call.{Call}
 use Rattle.schedule.specs.declared.book.Book.{Book}
-use Rattle.schedule.specs.declared.entry.Entry as read
-use Rattle.schedule.specs.Records.{record_in, with_record}
-use Rattle.schedule.specs.Run.{entry_of, call_width, call_words, first_call, wait_words}
-
--- an entry by value: what it stands for, and the one whose words come first
-abbrev pub given : read.Entry → Entry
-given entry = entry_of entry.worker entry.act entry.key entry.length
-
-abbrev pub first_entry : List ℕ → read.Entry
-first_entry words =
-    record { worker = get_or words 0 0; act = get_or words 1 0; key = get_or words 2 0; length = get_or words 3 0 }
+use Rattle.schedule.specs.Run.{call_width, call_words, first_call, wait_words}
 
 -- call i of a history
 abbrev pub call_in : List ℕ → ℕ → Call

@@ -1,5 +1,6 @@
 -- run (document 01: run a schedule on a board that it lays itself; document 02, A1: and write its waits, A2: of layout 2).
-use Rattle.std.specs.Prelude.{ℕ, ◌/◌, ◌%◌, Bool, not, ◌||◌, length, get_or, drop, ltb, eqb, Result, OnOk}
+use Rattle.std.specs.Prelude.{ℕ, ◌*◌, ◌/◌, ◌%◌, Bool, not, ◌||◌, length, get_or, drop, ltb, eqb, Result, OnOk}
+use Rattle.std.specs.List.{filter}
 use Rattle.std.proofs.Common.{refl, lit<}
 use mathlib.Core.List.{List, [], ◌∷◌, ◌++◌, map}
 use Rattle.worker.specs.Worker.{add, contains, within}
@@ -7,31 +8,17 @@ use Rattle.worker.specs.Refusals.{Test, judged}
 use Rattle.worker.specs.declared.refusal.Refusal.{Refusal}
 use Rattle.worker.specs.declared.refusal.Refusal.TheVariants.{BadCounts, BadSchedule, ShortArena, NoRoom}
 use Rattle.words.specs.Layout.{layout2, good_counts, total}
+use Rattle.words.specs.Entries.{entry_width, most_entries, entries_of}
 use Rattle.words.specs.Replies.{Reply, replied, written}
+use Rattle.words.specs.Flat.{flat_words, IsRecord}
+use Rattle.words.specs.declared.entry.Entry.{Entry}
 use Rattle.arena.specs.Init.{fresh_words}
-use Rattle.arena.specs.Lists.{filter}
-use Rattle.linear.specs.Entries.{Entry, is_turn}
+use Rattle.linear.specs.Entries.{is_turn}
 use Rattle.linear.specs.History as history
 use Rattle.linear.specs.Linearizable.{Linearizable}
 use Rattle.schedule.specs.declared.Call.{Call}
 use Rattle.schedule.specs.declared.Wait.{Wait}
 use Rattle.schedule.specs.declared.Totals.{Totals}
-use Rattle.schedule.specs.Records.{flat_words, RecordLaws}
-
--- entries are four words: worker, act, key, length
-abbrev pub entry_width : ℕ
-entry_width = 4
-
-abbrev pub entry_of : ℕ → ℕ → ℕ → ℕ → Entry
-entry_of worker act key cells = record { worker = worker; act = act; key = key; length = cells }
-
--- the entries of a schedule; words that are no whole entry are none
-unfoldable pub entries_of : List ℕ → List Entry
-entries_of [] = []
-entries_of (worker ∷ []) = []
-entries_of (worker ∷ act ∷ []) = []
-entries_of (worker ∷ act ∷ key ∷ []) = []
-entries_of (worker ∷ act ∷ key ∷ cells ∷ words) = entry_of worker act key cells ∷ entries_of words
 
 -- the entries with act 1 to 3, and those with act 0: as many calls may be started, and as many turns may wait
 abbrev pub is_operation : Entry → Bool
@@ -40,9 +27,9 @@ is_operation entry = within add contains entry.act
 unfoldable pub count_in : (Entry → Bool) → List Entry → ℕ
 count_in test entries = length (filter test entries)
 
--- bad schedule: a length that is not a multiple of 4, or above 16,000 words
+-- bad schedule: a length that is not a multiple of 4, or above 16,000 words, 4,000 entries
 unfoldable pub is_bad_schedule : List ℕ → Bool
-is_bad_schedule schedule = not (eqb (length schedule % entry_width) 0) || ltb 16000 (length schedule)
+is_bad_schedule schedule = not (eqb (length schedule % entry_width) 0) || ltb (entry_width * most_entries) (length schedule)
 
 -- a run lays layout 2. Order: 10, 9, 1, 8; `call_room` and `wait_room` are the numbers of records that are lent for calls and for waits
 unfoldable pub run_refusals : List ℕ → ℕ → ℕ → List ℕ → ℕ → ℕ → List Test
@@ -137,10 +124,10 @@ abbrev pub first_wait : List ℕ → Wait
 first_wait words =
     record { call = get_or words 0 0; time = get_or words 1 0; node = get_or words 2 0; worker = get_or words 3 0 }
 
-pub call_laws : RecordLaws call_width call_words first_call
+pub call_laws : IsRecord call_width call_words first_call
 call_laws = record { narrow = lit< tt; wide = λ call. refl; read_back = λ call rest. refl }
 
-pub wait_laws : RecordLaws wait_width wait_words first_wait
+pub wait_laws : IsRecord wait_width wait_words first_wait
 wait_laws = record { narrow = lit< tt; wide = λ wait. refl; read_back = λ wait rest. refl }
 
 abbrev pub run_call_words : List ℕ → ℕ → ℕ → List ℕ → List ℕ → List ℕ → List ℕ

@@ -4,16 +4,15 @@ ghost use Rattle.words.specs.Records.{worker_at};
 ghost use Rattle.linear.specs.Entries.{after};
 ghost use Rattle.linear.specs.History.{is_decision};
 ghost use Rattle.schedule.specs.Book.{call_in, decided_call, with_call, with_finish, decision_point, settles, with_decision, moved_book};
-ghost use Rattle.schedule.specs.Book.{Roomy, InOrder, given, absent_from, book_after, calls_after, waits_after};
+ghost use Rattle.schedule.specs.Book.{Roomy, InOrder, absent_from, book_after, calls_after, waits_after};
 
 use crate::book::Book;
-use crate::entry::Entry;
-use crate::records::{read, write};
 use crate::{Call, Wait, present};
-use words::{layout, records};
+use words::flat::{read, write};
+use words::{Entry, layout, records};
 use worker::{Answer, Report, Worker};
 
-// A turn at this stage that leaves this answer decides it; by the stage number, as in the definition.
+// A turn at this stage that leaves this answer decides it: document 01's match on the stage number; the answer is a record's word, a number.
 #[tactic(auto, unfolding(linear::specs::History::is_decision))]
 fn is_decision(stage: u16, answer: u16) -> bool
     ensures { result ≡ is_decision stage answer }
@@ -53,39 +52,37 @@ fn note_decision(history: &mut [u16], number: u16, point: u16, answer: u16)
     write(history, number, call.decided(point, answer));
 }
 
-// The books after a turn that decides an answer: a remove's yes takes its key out of the set.
-fn book_decision(book: Book, arena: &[u16], before: Worker, answer: u16, time: u16) -> Book
+// A turn that decides an answer: a remove's yes takes its key out of the set, which the books note.
+fn book_decision(book: &mut Book, arena: &[u16], before: Worker, answer: u16, time: u16)
     requires { settles before answer ≡ true }
-    ensures { result ≡ moved_book book arena.now before answer time }
+    ensures { book.new ≡ moved_book book.old arena.now before answer time }
 {
     if (before.operation == Worker::REMOVE) & (answer == Answer::Yes as u16) {
         let workers = words::word(arena, layout::WORKERS_AT);
-        return book.miss(arena, workers, before.key, time);
+        book.miss(arena, workers, before.key, time);
     }
-    book
 }
 
 // A turn that moves may decide its call's answer, which is then kept.
 fn enter_move(
     arena: &[u16],
     history: &mut [u16],
-    book: Book,
+    book: &mut Book,
     time: u16,
     worker: u16,
     before: Worker,
-) -> Book
-    ensures calls { history.new ≡ with_decision history.old (get_or book.opened worker 0) before
-        (worker_at arena.now worker).answer (get_or result.absent worker 0) time }
-    ensures books { result ≡ moved_book book arena.now before (worker_at arena.now worker).answer time }
+)
+    ensures calls { history.new ≡ with_decision history.old (get_or book.old.opened worker 0) before
+        (worker_at arena.now worker).answer (get_or book.new.absent worker 0) time }
+    ensures books { book.new ≡ moved_book book.old arena.now before (worker_at arena.now worker).answer time }
 {
     let answer = records::worker_field(arena, worker, layout::WORKER_ANSWER);
-    if !is_decision(before.stage, answer) {
-        return book;
+    if is_decision(before.stage, answer) {
+        let number = book.open_call(worker);
+        book_decision(book, arena, before, answer, time);
+        let point = point_of(before.operation, answer, book.absent_time(worker), time);
+        note_decision(history, number, point, answer);
     }
-    let next = book_decision(book, arena, before, answer, time);
-    let point = point_of(before.operation, answer, next.absent_time(worker), time);
-    note_decision(history, book.open_call(worker), point, answer);
-    next
 }
 
 // Its key and length are not looked at.
@@ -93,23 +90,23 @@ fn enter_turn(
     arena: &mut [u16],
     history: &mut [u16],
     waits: &mut [u16],
-    book: Book,
+    book: &mut Book,
     time: u16,
     entry: Entry,
-) -> Book
+)
     requires turns { entry.act ≡ 0 }
-    requires roomy { Roomy book }
-    ensures words { arena.new ≡ after arena.old (given entry) }
-    ensures calls { history.new ≡ calls_after arena.old time (given entry) book history.old }
-    ensures waits { waits.new ≡ waits_after arena.old time (given entry) book waits.old }
-    ensures books { result ≡ book_after arena.old time (given entry) book }
+    requires roomy { Roomy book.old }
+    ensures words { arena.new ≡ after arena.old entry }
+    ensures calls { history.new ≡ calls_after arena.old time entry book.old history.old }
+    ensures waits { waits.new ≡ waits_after arena.old time entry book.old waits.old }
+    ensures books { book.new ≡ book_after arena.old time entry book.old }
 {
     let worker = entry.worker;
     let before = records::read_worker(arena, worker);
     match lazy::turn(arena, worker) {
         Err(_) => book.refuse(),
         Ok(report) => match report {
-            Report::Idle => book,
+            Report::Idle => {}
             Report::Moved(_) => enter_move(arena, history, book, time, worker, before),
             Report::Waits(node, blocker) => {
                 let wait = Wait {
@@ -119,12 +116,9 @@ fn enter_turn(
                     worker: blocker,
                 };
                 write(waits, book.waits, wait);
-                book.wait()
+                book.wait();
             }
-            Report::Finished(_) => {
-                note_finish(history, book.open_call(worker), time);
-                book
-            }
+            Report::Finished(_) => note_finish(history, book.open_call(worker), time),
         },
     }
 }
@@ -144,46 +138,48 @@ fn absent_from(arena: &[u16], entry: Entry, time: u16) -> u16
     }
 }
 
-fn enter_start(arena: &mut [u16], history: &mut [u16], book: Book, time: u16, entry: Entry) -> Book
+fn enter_start(arena: &mut [u16], history: &mut [u16], book: &mut Book, time: u16, entry: Entry)
     requires starts { entry.act ≢ 0 }
-    requires roomy { Roomy book }
-    requires in_order { InOrder (after arena.old (given entry)) }
-    ensures words { arena.new ≡ after arena.old (given entry) }
+    requires roomy { Roomy book.old }
+    requires in_order { InOrder (after arena.old entry) }
+    ensures words { arena.new ≡ after arena.old entry }
     ensures calls { history.new
-        ≡ calls_after arena.old time (given entry) book history.old }
+        ≡ calls_after arena.old time entry book.old history.old }
     ensures waits { (waits : List ℕ) →
-        waits ≡ waits_after arena.old time (given entry) book waits }
-    ensures books { result ≡ book_after arena.old time (given entry) book }
+        waits ≡ waits_after arena.old time entry book.old waits }
+    ensures books { book.new ≡ book_after arena.old time entry book.old }
 {
     match arena::start(arena, entry.worker, entry.act, entry.key, entry.length) {
         Err(_) => book.refuse(),
         Ok(()) => {
             write(history, book.calls, Call::new(entry, time));
-            book.start(entry.worker, absent_from(arena, entry, time))
+            book.start(entry.worker, absent_from(arena, entry, time));
         }
     }
 }
 
 // The lent rows and the books are no struct: each function here takes just what it changes, and its contract need not say that the rest stays.
+// That there is room, and that the arena is in order, hold of the books and the arena at an entry and not always, so no type says it.
 pub(crate) fn enter(
     arena: &mut [u16],
     history: &mut [u16],
     waits: &mut [u16],
-    book: Book,
+    book: &mut Book,
     time: u16,
     entry: Entry,
-) -> Book
-    requires roomy { Roomy book }
-    requires in_order { InOrder (after arena.old (given entry)) }
-    ensures words { arena.new ≡ after arena.old (given entry) }
+)
+    requires roomy { Roomy book.old }
+    requires in_order { InOrder (after arena.old entry) }
+    ensures words { arena.new ≡ after arena.old entry }
     ensures calls { history.new
-        ≡ calls_after arena.old time (given entry) book history.old }
+        ≡ calls_after arena.old time entry book.old history.old }
     ensures waits { waits.new
-        ≡ waits_after arena.old time (given entry) book waits.old }
-    ensures books { result ≡ book_after arena.old time (given entry) book }
+        ≡ waits_after arena.old time entry book.old waits.old }
+    ensures books { book.new ≡ book_after arena.old time entry book.old }
 {
     if entry.act == Entry::TURN {
-        return enter_turn(arena, history, waits, book, time, entry);
+        enter_turn(arena, history, waits, book, time, entry);
+    } else {
+        enter_start(arena, history, book, time, entry);
     }
-    enter_start(arena, history, book, time, entry)
 }

@@ -7,21 +7,21 @@ ghost use Rattle.words.specs.Replies.{reply};
 ghost use Rattle.arena.specs.Init.{fresh_words};
 ghost use Rattle.linear.specs.Entries.{is_turn};
 ghost use Rattle.linear.specs.History.{totals, arena_at};
-ghost use Rattle.schedule.specs.Run.{entry_width, entries_of, is_operation, count_in, call_width, call_words, records_of};
+ghost use Rattle.schedule.specs.Run.{is_operation, count_in, call_width, call_words, records_of};
 ghost use Rattle.schedule.specs.Run.{wait_width, wait_words, waits_of, told, totals_of};
-ghost use Rattle.schedule.specs.Records.{flat_words};
+ghost use Rattle.words.specs.Flat.{flat_words};
+ghost use Rattle.words.specs.Entries.{entries_of};
 ghost use Rattle.schedule.specs.Run.{totals_values, run_answer, run_arena, run_call_words, run_wait_words, DoneLinearizable};
 
 use book::Book;
-use entry::Entry;
-use words::layout;
+use words::flat::Record;
+use words::{Entry, layout};
 use worker::Refusal;
 
 mod book;
 mod entries;
-mod entry;
 mod present;
-pub mod records;
+mod records;
 mod verdict;
 
 // A call's record in a history; 0 stands for a point or finish not reached, and for the answer of a call without a point: document 01 has it
@@ -93,7 +93,7 @@ pub fn run(
     Ok(run_entries(&mut arena[0..end], workers, nodes, schedule, history, waits))
 }
 
-// All entries, in words that are just those of the arena.
+// All entries, in words that are just those of the arena. W and N as the definitions have them: a `Counts` would be taken apart in each clause.
 fn run_entries(
     arena: &mut [u16],
     workers: u16,
@@ -122,7 +122,7 @@ fn run_entries(
     for (done, words) in entries.iter().enumerate() {
         let time = (done + 1) as u16;
         let entry = Entry::first(words);
-        book = entries::enter(arena, history, waits, book, time, entry);
+        entries::enter(arena, history, waits, &mut book, time, entry);
     }
     Totals {
         entries: entries.len() as u16,

@@ -1,17 +1,18 @@
 // The refusals of a run.
 ghost use Rattle.std.specs.Prelude.{◌≡◌, [], leb, IfOk};
 ghost use Rattle.std.specs.List.{count_by};
-ghost use Rattle.schedule.specs.Book.{first_entry};
 ghost use Rattle.worker.specs.Worker.{within};
 ghost use Rattle.words.specs.Layout.{layout2};
 ghost use Rattle.words.specs.Replies.{no_values, reply, replied};
-ghost use Rattle.schedule.specs.Run.{is_bad_schedule, entries_of, count_in, run_refusals};
+ghost use Rattle.words.specs.Entries.{entries_of, first_entry};
+ghost use Rattle.schedule.specs.Run.{is_bad_schedule, count_in, run_refusals};
 
-use crate::entry::Entry;
+use words::Entry;
+use words::flat::Record;
 use words::layout::{Counts, LAYOUT_2};
 use worker::{Refusal, Worker};
 
-const MOST_WORDS: usize = 16000;
+const MOST_WORDS: usize = Entry::WIDTH * Entry::MOST;
 
 // The rooms are the numbers of records that are lent for calls and for waits.
 #[tactic(auto, using(crate::proofs::EntryLaws::turns_within, crate::proofs::EntryLaws::below_or_not), unfolding(crate::specs::Run::run_refusals))]
@@ -50,7 +51,7 @@ fn is_bad(schedule: &[u16]) -> bool
     schedule.len() % Entry::WIDTH != 0 || MOST_WORDS < schedule.len()
 }
 
-// A row has room for the entries with an act from `low` to `high`. They are counted only where it has none for all entries.
+// Room for the entries with an act from `low` to `high`, a range as in the definition. They are counted only where it has none for all entries.
 fn has_room(schedule: &[u16], room: usize, low: u16, high: u16) -> bool
     ensures { result ≡ leb (count_in (λ entry. within low high entry.act) (entries_of schedule.now)) room }
 {
@@ -65,7 +66,7 @@ fn acts_in(entries: &[[u16; Entry::WIDTH]], low: u16, high: u16) -> usize
     // In a loop: with `filter` and `count`, an entry of a run took 45 ns and not 42.
     let mut count = 0;
     for words in entries {
-        if (low..=high).contains(&words[1]) {
+        if (low..=high).contains(&Entry::first(words).act) {
             count += 1;
         }
     }

@@ -7,7 +7,6 @@ use Rattle.words.specs.Layout.{node_width, header_words, node_part, node_from}
 use Rattle.words.specs.Records.{worker_at, with_worker, with_node, node_at}
 use Rattle.words.specs.Header.{is_header, header_refusals}
 use Rattle.arena.specs.Init.{fresh_workers, fresh_nodes, fresh_words, init_refusals, init_answer, init_arena}
-use Rattle.arena.specs.Lists.{filter}
 use Rattle.arena.specs.Start.{call_refusals, start_refusals, start_answer, start_arena}
 use Rattle.arena.specs.Sets.{walk, chain, chain_nodes, chain_labels, set_of}
 use Rattle.arena.specs.Snapshot.{chain_keys, chain_broken, chain_too_long, chain_refusals, keys_of, snapshot_refusals, snapshot_answer}
@@ -17,5 +16,5 @@ use Rattle.lazy.specs.Turn.{seen_of, seen_by, worker_refusals, turn_on, with_eff
 use Rattle.table.specs.Cases.{found, stated, cases}
 
 pub cases_hold : map found cases ≡ map stated cases
-unfolding flatten node_width header_words node_part worker_at with_worker with_node is_header header_refusals fresh_workers fresh_nodes fresh_words init_refusals init_answer init_arena call_refusals start_refusals start_answer start_arena filter walk chain chain_nodes chain_labels set_of chain_keys chain_broken chain_too_long chain_refusals keys_of snapshot_refusals snapshot_answer step_of belongs kept placed astray busy_refusals turn_refusals turn_of node_from node_at roots_of leads reached lowest_from lowest_free nodes_below not_free find_free_answer seen_of seen_by worker_refusals turn_on with_effect turn_answer turn_arena
+unfolding flatten node_width header_words node_part worker_at with_worker with_node is_header header_refusals fresh_workers fresh_nodes fresh_words init_refusals init_answer init_arena call_refusals start_refusals start_answer start_arena walk chain chain_nodes chain_labels set_of chain_keys chain_broken chain_too_long chain_refusals keys_of snapshot_refusals snapshot_answer step_of belongs kept placed astray busy_refusals turn_refusals turn_of node_from node_at roots_of leads reached lowest_from lowest_free nodes_below not_free find_free_answer seen_of seen_by worker_refusals turn_on with_effect turn_answer turn_arena
 cases_hold = refl

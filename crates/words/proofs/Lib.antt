@@ -5,3 +5,5 @@ pub mod Judged
 pub mod HeaderLaws
 pub mod RecordLaws
 pub mod Slots
+pub mod FlatLaws
+pub mod EntryLaws

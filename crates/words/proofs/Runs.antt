@@ -6,8 +6,8 @@ use mathlib.Core.Bool.{true, false}
 use native.Mathlib.Nat.{zero-add, add-zero, add-suc, suc-add, add_comm, mul-zero, mul-suc}
 use native.Mathlib.Numerals.{add-one, sub-one}
 use native.Mathlib.Omega.{arith}
-use lib.ListN.{length, drop, set, length-replicate, replicate, length-append, length-set, replicate-append-replicate, drop_of_length-le}
-use lib.Seq.{sets, sets-eq, set_out, set_at, get_or-set_same, get_or-set_other, set-get_or, set-append_left, drop-cons, drop-length, append_snoc}
+use lib.ListN.{length, drop, set, replicate, length-append, length-set, replicate-append-replicate, drop_of_length-le}
+use lib.Seq.{sets, sets-eq, set_out, get_or-set_same, get_or-set_other, set-get_or, set-append_left, drop-cons, drop-length}
 use borrow.Author.Tests.{eq-eqb, ne_eqb}
 use borrow.Rule.Slice.PartMut.{put_mid, Post-is}
 use Rattle.words.specs.Layout.{word}
@@ -35,12 +35,6 @@ pub flat_copies : (k n v : ℕ) → flatten (replicate k (replicate n v)) ≡ re
 unfolding flatten
 flat_copies zero n v = rw mul-zero
 flat_copies (suc k) n v = rw (flat_copies k n v, replicate-append-replicate, mul-suc, add_comm (n * k) n)
-
--- a list whose first words are cleared, and one more of them
-pub zeros_on : (l : List ℕ) (i : ℕ) → i < length l → set (replicate i 0 ++ drop i l) i 0 ≡ replicate (i + 1) 0 ++ drop (i + 1) l
-zeros_on l i h =
-    let longer = replicate-append-replicate {A = ℕ} i 1 0 in
-    rw (← longer, drop-cons l i 0 h, set_at (replicate i 0) (word l i) (drop (suc i) l) 0 i (length-replicate i 0), append_snoc, add-one)
 
 -- a part that comes back with other words is a run written where it stood
 pub part_sets : (vs l : List ℕ) (from end : ℕ) → from ≤ end → end ≤ length l → length vs ≡ end - from →

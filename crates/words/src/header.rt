@@ -9,7 +9,7 @@ use crate::layout::{self, Counts};
 use crate::{Nodes, records, word};
 use worker::{Refusal, Worker};
 
-// Lent words whose header passed the test.
+// Lent words, as document 01's board is, with nodes by number; their header passed the test.
 #[derive(Clone, Copy)]
 pub struct Arena<'a> {
     pub words: &'a [u16],

@@ -52,8 +52,8 @@ pub const NODE_OWNER: u16 = 3;
 
 pub const NODE_LENGTH: u16 = 4;
 
-// Words of a node record: 4 in layout 1, 5 in layout 2, and 0 where there is no such layout. By a sum, since the compiler drops the test
-// where the layout is known to be one.
+// Words of a node record: 4 in layout 1, 5 in layout 2, and 0 for any other header word, as in the definition. By a sum, since the compiler
+// drops the test where the layout is known to be one.
 #[tactic(auto, unfolding(crate::specs::Layout::node_width))]
 pub fn node_width(layout: u16) -> u16
     ensures { result ≡ node_width layout }
@@ -112,6 +112,7 @@ pub struct Counts {
 }
 
 impl Counts {
+    // That they are those that were asked for no type says, so a clause does.
     pub fn new(layout: u16, workers: u16, nodes: u16) -> Option<Counts>
         ensures good { is_some result ≡ good_counts layout workers nodes }
         ensures same { IfSome result (λ counts. (counts.layout ≡ layout) × (counts.workers ≡ workers) × (counts.nodes ≡ nodes)) }

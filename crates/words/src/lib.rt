@@ -1,15 +1,19 @@
 // The words of an arena (document 01: board): read and written whatever the place, since past the end a read gives 0 and a write does
-// nothing. `layout` says where the records stand, `records` reads and writes them, and `Arena` is what the header test lets through.
+// nothing. `layout` says where the records stand, `records` reads and writes them, and `Arena` is what the header test lets through. The words
+// of a schedule and of a history are records one behind the other: `flat`.
 #![tactic(auto)]
 
 ghost use Rattle.std.specs.Prelude.{◌≡◌, length, replicate, set};
 ghost use Rattle.std.proofs.lemmas.List.Edits.{sets};
 ghost use Rattle.words.specs.Layout.{word};
 
+mod entry;
+pub mod flat;
 mod header;
 pub mod layout;
 pub mod records;
 
+pub use entry::Entry;
 pub use header::Arena;
 pub use records::Nodes;
 
@@ -27,7 +31,7 @@ pub fn put(words: &mut [u16], at: usize, value: u16)
     }
 }
 
-// The values from a place on.
+// The values from a place on, as many as there is room for; so one by one, and not by `copy_from_slice`.
 #[tactic(auto, using(crate::proofs::Runs::sets_out))]
 pub fn write(words: &mut [u16], at: usize, values: &[u16])
     ensures { words.new ≡ sets words.old at values.now }
@@ -40,11 +44,11 @@ pub fn write(words: &mut [u16], at: usize, values: &[u16])
     }
 }
 
-// Zeros in every word. By place, as `fill` is not compiled to one call that clears memory: init took a quarter longer with it.
+// Zeros in every word. Not by `fill`, which is not compiled to one call that clears memory: init took a quarter longer with it.
 pub fn clear(words: &mut [u16])
     ensures { words.new ≡ replicate (length words.old) 0 }
 {
-    for i in 0..words.len() {
-        words[i] = 0;
+    for word in words.iter_mut() {
+        *word = 0;
     }
 }

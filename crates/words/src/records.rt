@@ -30,6 +30,7 @@ pub fn worker_field(arena: &[u16], number: u16, field: u16) -> u16
     word(arena, layout::worker_from(number) + (field as usize))
 }
 
+// Field by field, as it stands behind the header: as a `Record` its words would first be cut from the arena's.
 #[tactic(auto, unfolding(crate::specs::Records::worker_at))]
 pub fn read_worker(arena: &[u16], number: u16) -> Worker
     ensures { result ≡ worker_at arena.now number }
@@ -82,7 +83,7 @@ pub fn write_node(arena: &mut [u16], number: u16, node: Node)
     write(arena, at, &values[..width]);
 }
 
-// A field of a node, in any words of records of a width.
+// A field of a node, in any words of records of a width: not of `Nodes` alone, whose words span its nodes.
 pub fn node_field(nodes: &[u16], width: u16, node: u16, field: u16) -> u16
     ensures { result ≡ word nodes.now (slot width node field) }
 {

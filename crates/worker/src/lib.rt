@@ -13,7 +13,7 @@ mod turn;
 pub use refusal::Refusal;
 pub use report::{Answer, Effect, Report, Seen, Step};
 
-// Document 01's node record, and document 02's length.
+// Document 01's node record, and document 02's length. Numbers and no options, as its words are lent memory's and may be anything.
 #[derive(Clone, Copy, Debug, PartialEq, Eq)]
 pub struct Node {
     pub key: u16,
@@ -27,7 +27,7 @@ pub struct Node {
 }
 
 impl Node {
-    // Node numbers: Head, Tail, and no node.
+    // Node numbers: Head, Tail, and no node; a worker's words too, so there is no option.
     pub const HEAD: u16 = 0;
 
     pub const TAIL: u16 = 1;

@@ -52,6 +52,7 @@ impl Worker {
         }
     }
 
+    // Each sets the field of its name: one function over the field would match on it.
     fn with_stage(self, stage: u16) -> Worker
         ensures { result ≡ with_stage self stage }
     {

@@ -6,8 +6,8 @@ use crate::report::{Report, Seen, Step};
 use crate::{Refusal, Worker, is_key, is_within};
 
 impl Worker {
-    // One turn: the next worker, the report, and the one effect on the nodes. `owner` is the worker's owner word. An idle turn is
-    // reported here, so that `step` has one caller and is compiled into it.
+    // One turn: the next worker, the report, and the one effect on the nodes. `owner` is the worker's owner word, no part of what it sees.
+    // An idle turn is reported here, so that `step` has one caller and is compiled into it.
     #[tactic(auto, unfolding(crate::specs::Turn::turn_of, crate::specs::Turn::turn_refusals, crate::specs::Turn::busy_refusals, crate::specs::Stages::step_of))]
     pub fn turn(self, owner: u16, seen: Seen) -> Result<Step, Refusal>
         ensures { result ≡ turn_of self owner seen }

@@ -3,7 +3,7 @@ use Prim.Native.Nat.{ℕ, ◌*◌, ◌-◌}
 use mathlib.Core.Path.{◌≡◌}
 use native.Mathlib.Omega.{arith}
 use lib.ListN.{length-replicate}
-use Rattle.bench_input.specs.Input.{entry_width}
+use Rattle.words.specs.Entries.{entry_width}
 use Rattle.bench_run.proofs.OutputLaws.{bad_text, plan_fits, plan_text}
 use Rattle.bench_run.proofs.print_answer.Goals as goal
 

@@ -8,10 +8,10 @@ returns c =
     let s = c.run-summary.result in
     let ran = c.run-summary.ensures in
     record {
-      number = rw (c.number.ensures.number, told_bare totals_values s, ran.answer);
+      number = rw (c.number.ensures.number, c.write_totals.ensures.answer, ran.answer);
       words = ran.words;
       calls = ran.calls;
       waits = ran.waits;
-      totals = rw (c.write_totals.ensures, ran.answer);
-      linearizable = λ zero. zero_done s _ _ _ (rw (← c.number.ensures.number) zero) ran.linearizable;
+      totals = rw (c.write_totals.ensures.words, ran.answer);
+      linearizable = λ zero. zero_done s _ _ _ (rw (told_bare totals_values s) (rw (c.number.ensures.number, c.write_totals.ensures.answer) at zero)) ran.linearizable;
     }

@@ -1,6 +1,6 @@
 -- The invariant: the records before this one are filled in.
 use Rattle.std.proofs.Common.{◌≡◌}
-use Rattle.schedule.specs.Records.{record_in}
+use Rattle.words.specs.Flat.{record_in}
 use Rattle.history.specs.Rows.{filled_row}
 use Rattle.history.proofs.fill.Given as goal
 

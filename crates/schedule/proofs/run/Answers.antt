@@ -8,8 +8,9 @@ use lib.Seq.{length-take-le}
 use Rattle.std.proofs.lemmas.Result.{err_from_is_err_and}
 use Rattle.words.specs.Layout.{layout2, total}
 use Rattle.words.proofs.Judged.{judged_refused, judged_accepted}
+use Rattle.words.specs.Entries.{entries_of}
 use Rattle.linear.proofs.Theorem.{linearizable}
-use Rattle.schedule.specs.Run.{call_width, wait_width, entries_of, run_refusals, run_answer, run_arena, row_after}
+use Rattle.schedule.specs.Run.{call_width, wait_width, run_refusals, run_answer, run_arena, row_after}
 use Rattle.schedule.proofs.HistoryLaws.{run_passed}
 use Rattle.schedule.proofs.run.Goals as goal
 

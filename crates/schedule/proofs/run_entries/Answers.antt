@@ -1,7 +1,7 @@
 -- What holds between two entries begins with the fresh arena, and at the end it says what the run leaves.
 use Rattle.std.proofs.Common.{◌≡◌, ◌<◌, length, subst, ◌∙◌, arith}
-use Rattle.schedule.specs.Run.{entries_of}
-use Rattle.schedule.proofs.EntryLaws.{entries_quotient}
+use Rattle.words.proofs.EntryLaws.{entries_quotient}
+use Rattle.words.specs.Entries.{entries_of}
 use Rattle.schedule.proofs.Running.{Running, begins, may_enter, entered, history_end, waits_end, totals_end}
 use Rattle.schedule.proofs.run_entries.Goals as goal
 
@@ -12,8 +12,8 @@ loop-done-init c =
     (begins args.workers args.nodes args.schedule.now args.history.now args.waits.now args.arena.now c.requires.good c.requires.just_its_words)
 
 -- each entry may be made
-pub enter-book-requires : goal.enter-book-requires
-enter-book-requires c =
+pub enter-requires : goal.enter-requires
+enter-requires c =
     let args = c.args in
     let all = c.all-entries.ensures in
     let there : c.loop-done.done < length (entries_of args.schedule.now) = omega (arith, c.loop-done-test.true, all.count, entries_quotient args.schedule.now) in
@@ -25,7 +25,7 @@ loop-done-preserved c =
     let args = c.args in
     let all = c.all-entries.ensures in
     let there : c.loop-done.done < length (entries_of args.schedule.now) = omega (arith, c.loop-done-test.true, all.count, entries_quotient args.schedule.now) in
-    let enter = c.enter-book.ensures in
+    let enter = c.enter.ensures in
     entered args.workers args.nodes args.schedule.now args.history.now args.waits.now c.loop-done.invariant there c.all-entries.result.now all.entries
     c.requires.room_for_calls c.requires.room_for_waits
     (rw c.first-entry.ensures at enter.words) (rw c.first-entry.ensures at enter.calls) (rw c.first-entry.ensures at enter.waits) (rw c.first-entry.ensures at enter.books)

@@ -1,8 +1,8 @@
--- The invariant: the first i words are zeros, and the others as they were.
+-- The invariant: the first words are zeros, and the others as they were.
 use mathlib.Core.Path.{◌≡◌}
 use mathlib.Core.List.{◌++◌}
 use lib.ListN.{drop, replicate}
 use Rattle.words.proofs.clear.Given as goal
 
-abbrev pub invariant-loop-i : goal.invariant-loop-i
-invariant-loop-i l = l.words ≡ replicate l.i 0 ++ drop l.i l.initial.words
+abbrev pub invariant-loop-word : goal.invariant-loop-word
+invariant-loop-word l = l.words ≡ replicate l.word-index 0 ++ drop l.word-index l.initial.words

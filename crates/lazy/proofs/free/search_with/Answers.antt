@@ -1,27 +1,32 @@
-use mathlib.Core.Path.{◌≡◌, sym}
+use mathlib.Core.Path.{◌≡◌, sym, ◌∙◌}
 use mathlib.Core.List.{[], ◌∷◌}
+use mathlib.Core.Bool.{false}
 use native.Mathlib.Omega.{arith}
+use native.Mathlib.Nat.{le_refl}
 use native.Mathlib.Numerals.{add-one}
-use lib.ListN.{length}
+use lib.ListN.{length, length-replicate}
 use Rattle.words.specs.Layout.{workers_of}
 use Rattle.words.specs.Records.{worker_at}
 use Rattle.lazy.specs.Free.{roots_of}
-use Rattle.lazy.proofs.WholeSearch.{empty_closed, empty_held, from_empty, both, swapped, tells}
+use Rattle.lazy.proofs.WholeSearch.{empty_closed, empty_held, both, swapped, tells}
 use Rattle.lazy.proofs.free.search_with.Goals as goal
 
 pub reach_from-head-requires : goal.reach_from-head-requires
 reach_from-head-requires c =
-    let room = length c.args.reached.now in
-    let row = c.requires.empty in
-    (rw (row, c.nodes-nodes.ensures.count) (empty_closed room c.requires.room), rw row (sym (empty_held c.nodes-nodes.result.count room)))
+    let count = c.nodes-nodes.result.count in
+    rw (c.requires, ← c.nodes-nodes.ensures.count)
+    (record { places = length-replicate count false; so_far = (empty_closed count (le_refl count), sym (empty_held count count)) })
 
 pub loop-number-init : goal.loop-number-init
 unfolding roots_of
 loop-number-init c =
     let tail = c.reach_from-reads.ensures in
     let head = c.reach_from-head.ensures in
-    let walked = from_empty c.requires.empty (both head.walked tail.walked) in
-    (walked.0, tail.counted, walked.1)
+    let places : length c.args.reached.now ≡ c.nodes-nodes.result.count = rw (c.requires, length-replicate, c.nodes-nodes.ensures.count) in (
+      c.reach_from-reads.auto.reached ∙ c.reach_from-head.auto.reached ∙ places,
+      tail.counted,
+      rw (c.requires, ← c.nodes-nodes.ensures.count) at (both head.walked tail.walked),
+    )
 
 pub loop-number-preserved : goal.loop-number-preserved
 unfolding roots_of
@@ -30,7 +35,7 @@ loop-number-preserved c =
     let workers = worker_at c.args.arena.words.now in
     let worker = workers loop.number in
     let walked = rw c.worker.ensures at c.reach_worker-reads.ensures in (
-      loop.invariant.0,
+      c.reach_worker-reads.auto.reached ∙ loop.invariant.0,
       walked.counted,
       rw add-one
           (swapped (roots_of workers loop.number) (worker.pred ∷ worker.curr ∷ worker.spare ∷ [])
@@ -42,5 +47,5 @@ returns c =
     let loop = c.loop-number in
     let nodes = c.nodes-nodes.ensures in
     let all : loop.number ≡ workers_of c.args.arena.words.now = omega (arith, c.worker_count-number-end.ensures) in
-    let told = tells loop.invariant.0 (rw all at loop.invariant.2) in
-    rw (c.lowest_unreached.ensures, told.0, loop.invariant.1, told.1, nodes.words, nodes.width, nodes.count)
+    let told = tells _ (rw all at loop.invariant.2) in
+    rw (c.lowest_unreached.ensures, loop.invariant.0, told.0, loop.invariant.1, told.1, nodes.words, nodes.width, nodes.count)

@@ -14,7 +14,7 @@ unfolding next_book next_calls next_waits
 returns-in-Err c =
     let args = c.args in
     let told = c.in-Err.ensures.answer in
-    let then = after_refused_start args.arena.now args.entry args.time args.book c.requires.starts told in
+    let then = after_refused_start args.arena.now args.entry args.time args.book.now c.requires.starts told in
     record {
       words = c.start.ensures.words ∙ start_arena_lem args.arena.now args.entry c.requires.starts;
       calls = then.calls args.history.now;
@@ -28,7 +28,7 @@ returns-in-Ok c =
     let args = c.args in
     let told = c.in-Ok.ensures.answer in
     let here = c.start.ensures.words ∙ start_arena_lem args.arena.now args.entry c.requires.starts in
-    let then = after_start args.arena.now args.entry args.time args.book c.requires.starts told in
+    let then = after_start args.arena.now args.entry args.time args.book.now c.requires.starts told in
     record {
       words = here;
       calls = rw (c.write.ensures, c.new.ensures) (then.calls args.history.now);

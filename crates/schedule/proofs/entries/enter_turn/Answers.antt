@@ -14,7 +14,7 @@ unfolding next_book next_calls next_waits
 returns-in-Err c =
     let args = c.args in
     let told = c.in-Err.ensures.answer in
-    let then = after_turn args.arena.now args.entry args.time args.book c.requires.turns (Err _) told in
+    let then = after_turn args.arena.now args.entry args.time args.book.now c.requires.turns (Err _) told in
     record {
       words = c.turn.ensures.words ∙ turn_arena_lem args.arena.now args.entry c.requires.turns;
       calls = then.calls args.history.now;
@@ -27,7 +27,7 @@ unfolding next_book next_calls next_waits
 returns-in-Idle c =
     let args = c.args in
     let told = sym (ap (λ (r : Report). reply report_values (Ok r)) c.in-Idle.is) ∙ c.in-Ok.ensures.answer in
-    let then = after_turn args.arena.now args.entry args.time args.book c.requires.turns (Ok report.Idle) told in
+    let then = after_turn args.arena.now args.entry args.time args.book.now c.requires.turns (Ok report.Idle) told in
     record {
       words = c.turn.ensures.words ∙ turn_arena_lem args.arena.now args.entry c.requires.turns;
       calls = then.calls args.history.now;
@@ -42,7 +42,7 @@ returns-in-Moved c =
     let moves = c.enter_move in
     let here = c.turn.ensures.words ∙ turn_arena_lem args.arena.now args.entry c.requires.turns in
     let told = sym (ap (λ (r : Report). reply report_values (Ok r)) c.in-Moved.is) ∙ c.in-Ok.ensures.answer in
-    let then = after_turn args.arena.now args.entry args.time args.book c.requires.turns (Ok (report.Moved c.in-Moved.field-0)) told in
+    let then = after_turn args.arena.now args.entry args.time args.book.now c.requires.turns (Ok (report.Moved c.in-Moved.field-0)) told in
     record {
       words = here;
       calls = rw (moves.ensures.calls, moves.ensures.books, c.read_worker-before.ensures, here) (then.calls args.history.now);
@@ -55,7 +55,7 @@ unfolding next_book next_calls next_waits
 returns-in-Waits c =
     let args = c.args in
     let told = sym (ap (λ (r : Report). reply report_values (Ok r)) c.in-Waits.is) ∙ c.in-Ok.ensures.answer in
-    let then = after_turn args.arena.now args.entry args.time args.book c.requires.turns (Ok (report.Waits c.in-Waits.node c.in-Waits.blocker)) told in
+    let then = after_turn args.arena.now args.entry args.time args.book.now c.requires.turns (Ok (report.Waits c.in-Waits.node c.in-Waits.blocker)) told in
     record {
       words = c.turn.ensures.words ∙ turn_arena_lem args.arena.now args.entry c.requires.turns;
       calls = then.calls args.history.now;
@@ -68,7 +68,7 @@ unfolding next_book next_calls next_waits
 returns-in-Finished c =
     let args = c.args in
     let told = sym (ap (λ (r : Report). reply report_values (Ok r)) c.in-Finished.is) ∙ c.in-Ok.ensures.answer in
-    let then = after_turn args.arena.now args.entry args.time args.book c.requires.turns (Ok (report.Finished c.in-Finished.field-0)) told in
+    let then = after_turn args.arena.now args.entry args.time args.book.now c.requires.turns (Ok (report.Finished c.in-Finished.field-0)) told in
     record {
       words = c.turn.ensures.words ∙ turn_arena_lem args.arena.now args.entry c.requires.turns;
       calls = rw (c.note_finish.ensures, c.open_call-in-Finished.ensures) (then.calls args.history.now);

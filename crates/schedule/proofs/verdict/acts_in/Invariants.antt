@@ -2,7 +2,7 @@
 use Rattle.std.proofs.Common.{◌≡◌, take}
 use Rattle.std.specs.List.{count_by}
 use Rattle.worker.specs.Worker.{within}
-use Rattle.schedule.specs.Book.{first_entry}
+use Rattle.words.specs.Entries.{first_entry}
 use Rattle.schedule.proofs.verdict.acts_in.Given as goal
 
 abbrev pub invariant-loop-words : goal.invariant-loop-words

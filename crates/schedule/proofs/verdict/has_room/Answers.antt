@@ -2,7 +2,7 @@
 use Rattle.std.proofs.Common.{Bool, arith, sym, ap, leb, ◌∙◌}
 use borrow.Author.Tests.{le-leb}
 use Rattle.worker.specs.Worker.{within}
-use Rattle.linear.specs.Entries.{Entry}
+use Rattle.words.specs.declared.entry.Entry.{Entry}
 use Rattle.schedule.proofs.EntryLaws.{counted, count_few}
 use Rattle.schedule.proofs.verdict.has_room.Goals as goal
 

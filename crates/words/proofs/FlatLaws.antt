@@ -3,10 +3,11 @@ use Prim.Native.Nat.{ℕ, zero, suc, ◌+◌, ◌*◌, ◌<◌, ◌≤◌}
 use mathlib.Core.Path.{◌≡◌, refl, sym, ap, ◌∙◌}
 use mathlib.Core.List.{List, [], ◌∷◌, ◌++◌, map, map-append, append-nil, append_assoc, flatten}
 use native.Mathlib.Omega.{arith}
-use native.Mathlib.Nat.{zero-add, add-suc, suc-add, mul-suc}
+use native.Mathlib.Nat.{zero-add, add-suc, suc-add, mul-suc, mul-add}
 use lib.ListN.{length, get_or, set, drop, length-append, length-map, length-drop}
 use lib.Seq.{sets, sets-eq, drop-append_seam, drop-drop}
-use Rattle.schedule.specs.Records.{flat_words, record_in, with_record, RecordLaws}
+use Rattle.words.specs.Flat.{flat_words, record_in, with_record, IsRecord}
+use Rattle.words.proofs.Runs.{sets_append}
 
 -- the records of some times, and behind them what was lent
 abbrev pub held_by : {A : Type 0} → (A → List ℕ) → ℕ → (ℕ → A) → List ℕ → List ℕ → List ℕ
@@ -28,7 +29,13 @@ write_first values words room =
     let place : length values * 0 ≡ 0 = omega arith in
     rw place (sets-eq values words 0 (rw zero-add room) ∙ rw zero-add)
 
-module _ {A : Type 0} {width : ℕ} {words : A → List ℕ} {first : List ℕ → A} (laws : RecordLaws width words first) where
+-- the words of some records, and of others behind them
+pub flat_append : {A : Type 0} (words : A → List ℕ) (xs ys : List A) → flat_words words (xs ++ ys) ≡ flat_words words xs ++ flat_words words ys
+unfolding flatten
+flat_append words [] ys = refl
+flat_append words (x ∷ xs) ys = rw (flat_append words xs ys) (sym (append_assoc (words x) (flat_words words xs) (flat_words words ys)))
+
+module _ {A : Type 0} {width : ℕ} {words : A → List ℕ} {first : List ℕ → A} (laws : IsRecord width words first) where
   -- a record is read from its words, first and behind another
   pub read_first : (x : A) (rest : List ℕ) → record_in width first (words x ++ rest) 0 ≡ x
   unfolding record_in
@@ -78,6 +85,14 @@ module _ {A : Type 0} {width : ℕ} {words : A → List ℕ} {first : List ℕ �
   flat_write (y ∷ ys) rest (suc i) x there =
       rw (append_assoc, append_assoc)
       (write_behind y x (flat_words words ys ++ rest) i ∙ ap (λ l. words y ++ l) (flat_write ys rest i x (omega arith)))
+
+  -- one more record, behind some that were written from a place on
+  pub flat_behind : (xs : List A) (l : List ℕ) (i : ℕ) (x : A) →
+      with_record (sets l (width * i) (flat_words words xs)) (i + length xs) (words x) ≡ sets l (width * i) (flat_words words (xs ++ x ∷ []))
+  unfolding with_record flatten
+  flat_behind xs l i x =
+      let place : length (words x) * (i + length xs) ≡ width * i + length (flat_words words xs) = rw (laws.wide x, flat_length xs, mul-add) in
+      rw (place, flat_append words xs (x ∷ []), append-nil, sets_append)
 
   -- one more record, in words that are left
   pub flat_more : (xs : List A) (rest : List ℕ) (x : A) → width ≤ length rest →

@@ -16,7 +16,7 @@ unfoldable pub with_record : List ℕ → ℕ → List ℕ → List ℕ
 with_record words i values = sets words (length values * i) values
 
 -- what holds of each kind of record: all have as many words, and a record is the first of words that begin with its own
-pub record RecordLaws {A : Type 0} (width : ℕ) (words : A → List ℕ) (first : List ℕ → A) : Type 0 where
+pub record IsRecord {A : Type 0} (width : ℕ) (words : A → List ℕ) (first : List ℕ → A) : Type 0 where
   pub narrow : width < 65536
   pub wide : (x : A) → length (words x) ≡ width
   pub read_back : (x : A) (rest : List ℕ) → first (words x ++ rest) ≡ x
