@@ -12,8 +12,8 @@ ghost use Rattle.bench_print.specs.Print.{operation_text, answer_text, call_text
 use schedule::{Call, Totals, Wait};
 use worker::{Answer, Worker};
 
-// A lent output: its first `len` bytes are printed, which is told beside them as there is no heap. Past its end nothing is written, and `len`
-// stays.
+// A lent output, of which the first `len` bytes are printed: a length beside the bytes, as there is no heap. Past its end nothing is written,
+// and `len` stays.
 #[derive(Drop)]
 pub struct Output<'a> {
     bytes: &'a mut [u8],

@@ -10,6 +10,8 @@ use Rattle.words.specs.declared.entry.Entry.{Entry}
 use Rattle.arena.specs.Start.{start_refusals, start_arena}
 use Rattle.lazy.specs.Turn.{outcome_of, turn_on, turn_arena}
 
+-- an entry is that of `words` (`specs/Entries` there): worker, act, key, and the length that a start carries; act 0 is a turn, and every other
+-- act a start, one above 3 a start with a bad operation
 abbrev pub is_turn : Entry → Bool
 is_turn entry = eqb entry.act turn
 

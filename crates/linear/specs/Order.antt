@@ -1,8 +1,8 @@
 -- The order of the calls that have a point (document 01: in the order of their points, within one moment as above).
 use Rattle.std.specs.Prelude.{ℕ, suc, ◌≤◌, ◌<◌, ◌≡◌, ◌⊎◌, Bool, cond, not, ◌&&◌, ◌||◌, leb, ltb, eqb}
 use Rattle.std.specs.List.{filter}
-use Rattle.words.specs.declared.entry.Entry.{Entry}
 use mathlib.Core.List.{List, [], ◌∷◌, Permᴰ}
+use Rattle.words.specs.declared.entry.Entry.{Entry}
 use Rattle.arena.specs.Lists.{Pairs}
 use Rattle.linear.specs.History.{Call, is_late, calls}
 

@@ -8,9 +8,11 @@ use crate::word;
 #[derive(Clone, Copy, Debug, PartialEq, Eq, Hash)]
 pub struct Entry {
     pub worker: u16,
+    // 0 a turn, else the operation that is started
     pub act: u16,
+    // not looked at for a turn, nor is the length
     pub key: u16,
-    // that a start carries
+    // of the label, which a start carries
     pub length: u16,
 }
 
