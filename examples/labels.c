@@ -1,6 +1,7 @@
 /*
- * A printer with two workers. Worker 0 stores a label with its length, looks it up and takes it out again, alone; then worker 1 finds it in
- * the way. Last a schedule is run in which worker 1 looks for a label while worker 0 takes it out, and waits for a node that worker 0 has.
+ * A printer with two workers. Worker 0 stores a label with its length, looks it up and takes it out again, alone, and so makes room for a
+ * longer one; then worker 1 finds it in the way. Last a schedule is run in which worker 1 looks for a label while worker 0 takes it out, and
+ * waits for a node that worker 0 has.
  *
  *     (cd crates/capi && rt lib)
  *     cc -std=c99 -Iinclude examples/labels.c crates/capi/out/libcapi.a -o labels && ./labels
@@ -10,6 +11,7 @@
 #include "lazy_list.h"
 
 enum { LAYOUT = 2, WORKERS = 2, NODES = 3, CALLS = 7, TURNS = 103, NODE_WORDS = 5, ENTRY_WORDS = 4, CALL_WORDS = 7, WAIT_WORDS = 4 };
+enum { LAST_CELL = 12, PALLET_LENGTH = 10 };
 
 static uint16_t arena[LAZY_LIST_WORDS(LAYOUT, WORKERS, NODES)];
 static const size_t arena_length = sizeof arena / sizeof *arena;
@@ -64,6 +66,17 @@ static void print_free(void) {
     else
         printf("node %u is free", (unsigned)LAZY_LIST_VALUE(reply));
     printf(": %u next words read\n", (unsigned)LAZY_LIST_SECOND(reply));
+}
+
+/* Stores the label of a pallet where the longest run of free cells begins, if it is long enough. */
+static void place_pallet(void) {
+    uint64_t reply = lazy_list_longest_free_run(arena, arena_length, LAST_CELL);
+    unsigned first = LAZY_LIST_VALUE(reply), length = LAZY_LIST_SECOND(reply);
+
+    if (length < PALLET_LENGTH)
+        printf("no room for %d cells: the longest free run has %u, from %u on\n", PALLET_LENGTH, length, first);
+    else
+        call(0, LAZY_LIST_ADD, (uint16_t)first, PALLET_LENGTH);
 }
 
 /* Worker 0 stops with Head in its hands: the turn of worker 1 that wants Head waits, and says so. */
@@ -163,6 +176,12 @@ int main(void) {
     call(0, LAZY_LIST_CONTAINS, 5, 0);
     call(0, LAZY_LIST_ADD, 0, 3);
     call(0, LAZY_LIST_ADD, 65530, 6); /* key and length are at most 65,535 together */
+    call(0, LAZY_LIST_ADD, 5, 3);
+    place_pallet();
+    call(0, LAZY_LIST_REMOVE, 5, 0);
+    place_pallet();
+    print_labels();
+    call(0, LAZY_LIST_REMOVE, 1, 0);
     meet_at_head();
     run_schedule();
     print_labels();

@@ -43,12 +43,13 @@ enum lazy_list_refusal {
     LAZY_LIST_ODD_HEADER = 2,     /* the first 8 words are not the header of some layout, W and N */
     LAZY_LIST_NO_SUCH_WORKER = 3, /* a worker number of W or more */
     LAZY_LIST_BUSY = 4,           /* the worker has a call that is not finished */
-    LAZY_LIST_BAD_CALL = 5,       /* an operation that is not 1 to 3, key 0 or 65,535, or a length that the call may not have */
+    LAZY_LIST_BAD_CALL = 5,       /* an operation that is not 1 to 3, key or last cell 0 or 65,535, or a length that the call may not have */
     LAZY_LIST_BROKEN_RECORD = 6,  /* a worker record that no turn can work on */
-    LAZY_LIST_BROKEN_CHAIN = 7,   /* a link to no node, or, in a snapshot, keys that do not rise */
+    LAZY_LIST_BROKEN_CHAIN = 7,   /* a link to no node, or, in a snapshot and a longest free run, keys that do not rise */
     LAZY_LIST_NO_ROOM = 8,        /* too few words lent for the keys, the calls or the waits */
     LAZY_LIST_BAD_SCHEDULE = 9,   /* a number of words that is no multiple of 4, or above 16,000 */
-    LAZY_LIST_BAD_COUNTS = 10     /* a layout that is not 1 or 2, or W or N out of range */
+    LAZY_LIST_BAD_COUNTS = 10,    /* a layout that is not 1 or 2, or W or N out of range */
+    LAZY_LIST_LENGTHS_MISSING = 13 /* an arena of layout 1, whose labels have no lengths */
 };
 
 /* Operations of a call; keys are 1 to 65,534. */
@@ -59,8 +60,8 @@ enum lazy_list_report { LAZY_LIST_IDLE = 0, LAZY_LIST_MOVED = 1, LAZY_LIST_WAITS
 enum lazy_list_answer { LAZY_LIST_YES = 1, LAZY_LIST_NO = 2, LAZY_LIST_FULL = 3 };
 
 /* Read a reply: its refusal, or 0; of an accepted turn the report. The first value is the stage moved to, the answer finished with, the
- * node waited for, the count of a snapshot's keys, or the node that find_free found; the second is the worker that a turn waits for, or the
- * next words that find_free read. What a reply does not have is 0. */
+ * node waited for, the count of a snapshot's keys, the node that find_free found, or the first cell of the longest free run; the second is
+ * the worker that a turn waits for, the next words that find_free read, or the length of that run. What a reply does not have is 0. */
 #define LAZY_LIST_REFUSAL(reply) ((reply) % 256u)
 #define LAZY_LIST_REPORT(reply) ((reply) / 256u % 256u)
 #define LAZY_LIST_VALUE(reply) ((reply) / 65536u % 65536u)
@@ -91,6 +92,12 @@ uint64_t lazy_list_find_free(const uint16_t *arena, size_t arena_length);
  * N less 2 keys is enough, and a contains that an idle worker starts then, and that alone gets turns until it finishes, answers yes exactly
  * if its key is listed. */
 uint64_t lazy_list_snapshot(const uint16_t *arena, size_t arena_length, uint16_t *keys, size_t keys_length);
+
+/* Where a long label fits: the first cell and the length of the longest run of cells from 1 to the last, which is 1 to 65,534, that lie in
+ * no label of the set; of equal runs the one that begins lowest, and 0 and 0 where no cell is free. A label covers the cells from its key
+ * to its key plus its length less 1; labels may overlap, and end past the last cell. It is one pass along the chain: its time goes by the
+ * nodes there, and not by the cells. Nothing is written. Refused with 1, 2, 5, 7, 13. */
+uint64_t lazy_list_longest_free_run(const uint16_t *arena, size_t arena_length, uint16_t last_cell);
 
 /* Runs a schedule on an arena of layout 2 that it lays itself. An entry is four words: worker, act (0 turn, or an operation to start), key
  * and label length (both not looked at for a turn). A refused entry is counted and the run goes on. Entries are counted from 1; the history

@@ -5,4 +5,5 @@ pub mod StartLaws
 pub mod SetLaws
 pub mod ShortChains
 pub mod Walks
+pub mod KeyLaws
 pub mod SnapshotLaws

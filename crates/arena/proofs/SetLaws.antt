@@ -15,7 +15,8 @@ use Rattle.worker.specs.Node.{head, tail}
 use Rattle.words.specs.Layout.{layout_of, nodes_of, node_width, node_part}
 use Rattle.words.specs.Records.{key_at, next_at}
 use Rattle.arena.specs.Lists.{Pairs, alone, ◌ahead◌}
-use Rattle.arena.specs.Sets.{Label, Rising, member, keys_in, is_none, label_at, is_unmarked, walk, chain, chain_nodes, chain_labels, node_in, label_in, ChainWhole, set_of, OnChain, top, link, InSet}
+use Rattle.arena.specs.declared.chain.Label.{Label}
+use Rattle.arena.specs.Sets.{Rising, member, keys_in, is_none, label_at, is_unmarked, walk, chain, chain_nodes, chain_labels, node_in, label_in, ChainWhole, set_of, OnChain, top, link, InSet}
 use Rattle.arena.proofs.ListLaws.{in_filter, from_filter, each_of, pairs_filter, pairs_map}
 
 -- a key is a member where it is one of the keys

@@ -4,3 +4,4 @@ pub mod Init
 pub mod Start
 pub mod Sets
 pub mod Snapshot
+pub mod Keys

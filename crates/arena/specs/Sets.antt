@@ -8,12 +8,8 @@ use Rattle.worker.specs.Node.{head, tail}
 use Rattle.worker.specs.declared.Node.{Node}
 use Rattle.words.specs.Layout.{layout_of, nodes_of, node_width, node_part}
 use Rattle.words.specs.Records.{node_at, key_at, next_at}
+use Rattle.arena.specs.declared.chain.Label.{Label}
 use Rattle.arena.specs.Lists.{Pairs}
-
--- a label: its key, and its length, which is 0 where nodes have none
-pub record Label : Type 0 where
-  pub key : ℕ
-  pub length : ℕ
 
 -- keys rise
 abbrev pub Rising : List Label → Type 0

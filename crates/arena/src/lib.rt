@@ -12,6 +12,9 @@ use worker::{Refusal, Worker};
 
 mod chain;
 mod fresh;
+mod keys;
+
+pub use chain::{Label, Visitor, visit_labels};
 
 // Lays a fresh arena of a layout (document 01: lay). Words past its total stay.
 #[tactic(auto, unfolding(crate::specs::Init::init_answer, crate::specs::Init::init_arena))]
@@ -87,5 +90,5 @@ pub fn snapshot(arena: &[u16], keys: &mut [u16]) -> Result<u16, Refusal>
     ensures answer { reply count_values result ≡ snapshot_answer arena.now (length keys.old) }
     ensures words { keys.new ≡ snapshot_words arena.now keys.old }
 {
-    chain::write_keys(Arena::new(arena)?.nodes(), keys)
+    keys::write_keys(Arena::new(arena)?.nodes(), keys)
 }

@@ -7,7 +7,7 @@ use Rattle.std.specs.Prelude.{Result, Ok, Err}
 use Rattle.worker.specs.Refusals.{Test}
 use Rattle.worker.specs.Report.{report_values}
 use Rattle.worker.specs.declared.refusal.Refusal.{Refusal}
-use Rattle.worker.specs.declared.refusal.Refusal.TheVariants.{ShortArena, OddHeader, NoSuchWorker, Busy, BadCall, BrokenRecord, BrokenChain, NoRoom, BadSchedule, BadCounts}
+use Rattle.worker.specs.declared.refusal.Refusal.TheVariants.{ShortArena, OddHeader, NoSuchWorker, Busy, BadCall, BrokenRecord, BrokenChain, NoRoom, BadSchedule, BadCounts, LengthsMissing}
 use Rattle.worker.proofs.RefusalLaws.{judged_keeps}
 use Rattle.words.specs.Replies.{Reply, refused, accepted, refusing, reply, no_values, replied}
 use Rattle.words.specs.Header.{header_refusals}
@@ -18,6 +18,7 @@ use Rattle.arena.specs.Start.{start_refusals, start_answer}
 use Rattle.arena.specs.Snapshot.{snapshot_refusals, snapshot_answer}
 use Rattle.lazy.specs.FindFree.{find_free_answer}
 use Rattle.lazy.specs.Turn.{outcome_of, turn_on, turn_answer}
+use Rattle.free_cells.specs.LongestFreeRun.{longest_free_run_refusals, longest_free_run_answer}
 use Rattle.linear.specs.Linearizable.{Linearizable}
 use Rattle.schedule.specs.Run.{run_refusals, run_answer, DoneLinearizable}
 use Rattle.schedule.specs.declared.Totals.{Totals}
@@ -59,6 +60,7 @@ refusal_readable BrokenChain = (omega arith, omega arith, omega arith)
 refusal_readable NoRoom = (omega arith, omega arith, omega arith)
 refusal_readable BadSchedule = (omega arith, omega arith, omega arith)
 refusal_readable BadCounts = (omega arith, omega arith, omega arith)
+refusal_readable LengthsMissing = (omega arith, omega arith, omega arith)
 
 accepted_readable : (values : List ℕ) → Readable (accepted values)
 accepted_readable values = omega arith
@@ -100,6 +102,11 @@ module _ (arena : List ℕ) where
   pub find_free_readable : Readable (unreported (find_free_answer arena))
   unfolding find_free_answer
   find_free_readable = unreported_readable (find_free_answer arena) (replied_readable (header_refusals arena) _)
+
+  pub longest_free_run_readable : (last : ℕ) → Readable (unreported (longest_free_run_answer arena last))
+  unfolding longest_free_run_answer
+  longest_free_run_readable last =
+      unreported_readable (longest_free_run_answer arena last) (replied_readable (longest_free_run_refusals arena last) _)
 
   pub run_readable : (workers nodes : ℕ) (schedule : List ℕ) (call_room wait_room : ℕ) →
       Readable (run_answer arena workers nodes schedule call_room wait_room)

@@ -10,6 +10,7 @@ ghost use Rattle.arena.specs.Start.{start_answer, start_arena};
 ghost use Rattle.arena.specs.Snapshot.{snapshot_answer, snapshot_words};
 ghost use Rattle.lazy.specs.FindFree.{find_free_answer};
 ghost use Rattle.lazy.specs.Turn.{turn_answer, turn_arena};
+ghost use Rattle.free_cells.specs.LongestFreeRun.{longest_free_run_answer};
 ghost use Rattle.linear.specs.Linearizable.{Linearizable};
 ghost use Rattle.schedule.specs.Run.{call_width, wait_width, totals_values, run_answer, run_arena, run_call_words, run_wait_words};
 ghost use Rattle.capi.specs.Number.{reply_number, unreported, Reads, bare, values_or};
@@ -55,6 +56,7 @@ pub extern "C" fn lazy_list_turn(arena: &mut [u16], worker: u16) -> u64
 }
 
 // The lowest-numbered free node, and how many next words the search for it read.
+#[tactic(auto, using(crate::proofs::NumberLaws::told_unreported))]
 #[unsafe(no_mangle)]
 pub extern "C" fn lazy_list_find_free(arena: &[u16]) -> u64
     ensures number { result ≡ reply_number (unreported (find_free_answer arena.now)) }
@@ -64,6 +66,7 @@ pub extern "C" fn lazy_list_find_free(arena: &[u16]) -> u64
 }
 
 // The keys of the set, rising.
+#[tactic(auto, using(crate::proofs::NumberLaws::told_unreported))]
 #[unsafe(no_mangle)]
 pub extern "C" fn lazy_list_snapshot(arena: &[u16], keys: &mut [u16]) -> u64
     ensures number { result ≡ reply_number (unreported (snapshot_answer arena.now (length keys.old))) }
@@ -71,6 +74,16 @@ pub extern "C" fn lazy_list_snapshot(arena: &[u16], keys: &mut [u16]) -> u64
     ensures words { keys.new ≡ snapshot_words arena.now keys.old }
 {
     number(arena::snapshot(arena, keys))
+}
+
+// The longest run of cells from 1 to the last one that lie in no label of the set.
+#[tactic(auto, using(crate::proofs::NumberLaws::told_unreported))]
+#[unsafe(no_mangle)]
+pub extern "C" fn lazy_list_longest_free_run(arena: &[u16], last_cell: u16) -> u64
+    ensures number { result ≡ reply_number (unreported (longest_free_run_answer arena.now last_cell)) }
+    ensures read { Reads result (unreported (longest_free_run_answer arena.now last_cell)) }
+{
+    number(free_cells::longest_free_run(arena, last_cell))
 }
 
 // Runs a schedule on an arena that it lays itself; the totals are entries, refused, waits, calls.

@@ -3,8 +3,10 @@ ghost use Rattle.std.specs.Prelude.{◌≡◌, [], ◌∷◌, List, ℕ};
 ghost use Rattle.worker.specs.Report.{answer_number, report_values};
 ghost use Rattle.words.specs.Replies.{accepted, no_values, reply};
 ghost use Rattle.lazy.specs.FindFree.{found_values, free_number};
+ghost use Rattle.free_cells.specs.LongestFreeRun.{run_values};
 ghost use Rattle.capi.specs.Number.{reply_number, Reads, Fitting};
 
+use free_cells::FreeRun;
 use lazy::Found;
 use worker::{Node, Refusal, Report};
 
@@ -64,6 +66,14 @@ fn of_free(free: Option<u16>) -> u16
     ensures { result ≡ free_number free }
 {
     free.unwrap_or(Node::NONE)
+}
+
+impl Told for FreeRun {
+    ghost values = { λ run. 0 ∷ run_values run };
+
+    fn number(self) -> u64 {
+        FIRST * (self.first as u64) + SECOND * (self.length as u64)
+    }
 }
 
 impl Told for Report {

@@ -1,10 +1,12 @@
 // Runs what the starred cases leave out: on layout 1 the limits of the counts, damaged headers, records and chains, a turn at each stage,
-// and nodes used again; on layout 2 lengths. What it prints is held to the stored output, which was worked out from documents 01 and 02.
+// and nodes used again; on layout 2 lengths, and the longest run of free cells. What it prints is held to the stored output, which was worked out
+// from documents 01 and 02.
 #![tactic(auto)]
 
 mod calls;
 mod circles;
 mod damage;
+mod free_runs;
 mod fresh;
 mod labels;
 mod print;
@@ -43,5 +45,8 @@ fn all(out: &mut Out) -> fmt::Result {
     labels::carried(out)?;
     labels::taken_again(out)?;
     labels::chained(out)?;
-    labels::written(out)
+    labels::written(out)?;
+    free_runs::one_label(out)?;
+    free_runs::more_labels(out)?;
+    free_runs::refusals(out)
 }

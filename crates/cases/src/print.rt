@@ -1,4 +1,5 @@
 // Lines of output: what was replied, words.
+use free_cells::FreeRun;
 use lazy::Found;
 use std::fmt;
 use std::fmt::Write;
@@ -98,6 +99,12 @@ impl Given for Found {
             None => f.write_str("none")?,
         }
         write!(f, ", next words read {}", self.reads)
+    }
+}
+
+impl Given for FreeRun {
+    fn print<W: fmt::Write>(&self, f: &mut fmt::Formatter<W>) -> fmt::Result {
+        write!(f, "first {}, length {}", self.first, self.length)
     }
 }
 

@@ -4,7 +4,8 @@ use Rattle.worker.specs.Worker.{add, remove, contains}
 use Rattle.worker.specs.Report.{answer_number}
 use Rattle.worker.specs.declared.report.Answer.TheVariants.{Yes, No, Full}
 use Rattle.words.specs.declared.entry.Entry.{Entry}
-use Rattle.arena.specs.Sets.{Label, set_of}
+use Rattle.arena.specs.declared.chain.Label.{Label}
+use Rattle.arena.specs.Sets.{set_of}
 use Rattle.linear.specs.History.{Call, Wait, Totals, arena_at, calls, waits, totals}
 use Rattle.linear.specs.Order.{in_order}
 use Rattle.linear.specs.Sequential.{labels_after}

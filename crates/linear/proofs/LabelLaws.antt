@@ -12,7 +12,8 @@ use lib.Dec.{ltb, eqb}
 use borrow.Author.Tests.{eqb-true, eqb-false, eq-eqb, ne_eqb, ltb-true, ltb-false}
 use Rattle.std.specs.List.{filter}
 use Rattle.arena.specs.Lists.{Each, none as nothing, ◌and◌, alone, ◌ahead◌}
-use Rattle.arena.specs.Sets.{Label, Rising, member, is_none}
+use Rattle.arena.specs.declared.chain.Label.{Label}
+use Rattle.arena.specs.Sets.{Rising, member, is_none}
 use Rattle.arena.proofs.ListLaws.{each_in, each_of, pairs_filter}
 use Rattle.linear.specs.Sequential.{including, excluding}
 

@@ -9,7 +9,8 @@ use native.Mathlib.Decide.{ℕ_discrete}
 use native.Mathlib.Omega.{arith}
 use Rattle.worker.specs.Node.{head, tail}
 use Rattle.words.specs.Layout.{nodes_of}
-use Rattle.arena.specs.Sets.{Label, member, ChainWhole, set_of, OnChain, top, link, InSet}
+use Rattle.arena.specs.declared.chain.Label.{Label}
+use Rattle.arena.specs.Sets.{member, ChainWhole, set_of, OnChain, top, link, InSet}
 use Rattle.arena.proofs.SetLaws.{chain_whole, set_rises, set_members}
 use Rattle.linear.proofs.LabelLaws.{find, labelled, member_find, present_find, from_find, in_find}
 use Rattle.linear.proofs.Reach.{Reach, here, one_more, along}

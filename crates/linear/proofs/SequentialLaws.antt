@@ -4,7 +4,8 @@ use mathlib.Core.List.{List}
 use mathlib.Core.Bool.{Bool, true, false}
 use Rattle.worker.specs.Worker.{add, remove, contains}
 use Rattle.worker.specs.declared.report.Answer.TheVariants.{Yes, No, Full}
-use Rattle.arena.specs.Sets.{Label, member}
+use Rattle.arena.specs.declared.chain.Label.{Label}
+use Rattle.arena.specs.Sets.{member}
 use Rattle.linear.specs.Sequential.{including, excluding, responds, add_to, remove_from, look_in, response_to}
 
 module _ (labels : List Label) (label : Label) where

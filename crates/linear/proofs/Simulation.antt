@@ -12,7 +12,8 @@ use Rattle.worker.specs.Worker.{add, remove, contains}
 use Rattle.worker.specs.Report.{answer_number}
 use Rattle.worker.specs.declared.report.Answer.TheVariants.{Yes, No, Full}
 use Rattle.arena.specs.Lists.{Each, none as nothing, ◌and◌, Pairs, alone, ◌ahead◌}
-use Rattle.arena.specs.Sets.{is_none, Label, Rising, member}
+use Rattle.arena.specs.declared.chain.Label.{Label}
+use Rattle.arena.specs.Sets.{is_none, Rising, member}
 use Rattle.arena.proofs.ListLaws.{each_in, each_of}
 use Rattle.linear.specs.History.{Call, is_late}
 use Rattle.linear.specs.Order.{rank, Before}

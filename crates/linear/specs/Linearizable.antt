@@ -9,7 +9,8 @@ use Rattle.worker.specs.declared.report.Report.TheVariants.{Finished}
 use Rattle.words.specs.Layout.{workers_of}
 use Rattle.words.specs.Records.{worker_at}
 use Rattle.words.specs.declared.entry.Entry.{Entry}
-use Rattle.arena.specs.Sets.{Label, node_in, ChainWhole, set_of, InSet}
+use Rattle.arena.specs.declared.chain.Label.{Label}
+use Rattle.arena.specs.Sets.{node_in, ChainWhole, set_of, InSet}
 use Rattle.linear.specs.Entries.{is_turn, turn_reported, entry_refused}
 use Rattle.linear.specs.History.{Call, Wait, entry_at, arena_at, event_at, calls, waits}
 use Rattle.linear.specs.Order.{in_order}

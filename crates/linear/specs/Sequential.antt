@@ -4,7 +4,8 @@ use Rattle.worker.specs.Worker.{add, remove}
 use Rattle.worker.specs.Report.{answer_number}
 use Rattle.worker.specs.declared.report.Answer.{Answer}
 use Rattle.worker.specs.declared.report.Answer.TheVariants.{Yes, No, Full}
-use Rattle.arena.specs.Sets.{Label, member}
+use Rattle.arena.specs.declared.chain.Label.{Label}
+use Rattle.arena.specs.Sets.{member}
 use Rattle.linear.specs.History.{Call}
 
 -- the labels with one more, in its place, and without the one of a key

@@ -13,7 +13,8 @@ use borrow.Author.Tests.{eq-eqb, ne_eqb}
 use Rattle.std.specs.List.{filter}
 use Rattle.worker.specs.Node.{head, tail}
 use Rattle.words.specs.Layout.{layout_of, nodes_of, node_width, node_part}
-use Rattle.arena.specs.Sets.{Label, member, is_unmarked, chain_labels, node_in, label_in, ChainWhole, set_of}
+use Rattle.arena.specs.declared.chain.Label.{Label}
+use Rattle.arena.specs.Sets.{member, is_unmarked, chain_labels, node_in, label_in, ChainWhole, set_of}
 use Rattle.arena.proofs.ListLaws.{from_filter}
 use Rattle.arena.proofs.SetLaws.{key_of, next_of, chain_of, Walked, ended, passed, walked_above, whole_walked}
 use Rattle.linear.proofs.LabelLaws.{present_find, from_find}

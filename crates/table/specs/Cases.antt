@@ -1,9 +1,9 @@
--- One table for the starred cases of document 01, "Small boards", which are of layout 1, and some of layout 2 (document 02, A2): a row
+-- One table for the starred cases of document 01, "Small boards", which are of layout 1, and some of document 02: a row
 -- lends words, makes some calls, asks one thing more, and says what is replied.
 use Rattle.std.specs.Prelude.{ℕ, zero, suc, List, [], ◌∷◌, ◌++◌, replicate}
 use Rattle.worker.specs.Node.{head, no_node}
 use Rattle.worker.specs.Worker.{add, remove, contains}
-use Rattle.worker.specs.declared.refusal.Refusal.TheVariants.{ShortArena, OddHeader, Busy, BadCall, NoRoom, BadCounts}
+use Rattle.worker.specs.declared.refusal.Refusal.TheVariants.{ShortArena, OddHeader, Busy, BadCall, NoRoom, BadCounts, LengthsMissing}
 use Rattle.worker.specs.Report.{report_values}
 use Rattle.worker.specs.declared.report.Answer.TheVariants.{Yes, No}
 use Rattle.worker.specs.declared.report.Report.{Report}
@@ -15,15 +15,17 @@ use Rattle.arena.specs.Start.{start_answer, start_arena}
 use Rattle.arena.specs.Snapshot.{snapshot_answer}
 use Rattle.lazy.specs.FindFree.{find_free_answer}
 use Rattle.lazy.specs.Turn.{turn_answer, turn_arena}
+use Rattle.free_cells.specs.LongestFreeRun.{longest_free_run_answer}
 
 -- what is asked of an arena: init with layout, W and N, a start with worker, operation, key and length, so many turns of a worker, a
--- snapshot with so much room, the lowest free node, or the word at a place
+-- snapshot with so much room, the lowest free node, the longest free run up to a last cell, or the word at a place
 pub data Ask : Type 0 where
   init : ℕ → ℕ → ℕ → Ask
   start : ℕ → ℕ → ℕ → ℕ → Ask
   turns : ℕ → ℕ → Ask
   list : ℕ → Ask
   search : Ask
+  longest : ℕ → Ask
   look : ℕ → Ask
 
 abbrev pub after_turns : List ℕ → ℕ → ℕ → List ℕ
@@ -42,6 +44,7 @@ reply_to arena (start worker operation key length) = start_answer arena worker o
 reply_to arena (turns worker count) = last_reply arena worker count
 reply_to arena (list room) = snapshot_answer arena room
 reply_to arena search = find_free_answer arena
+reply_to arena (longest last) = longest_free_run_answer arena last
 reply_to arena (look at) = accepted (word arena at ∷ [])
 
 -- and the arena afterwards
@@ -51,6 +54,7 @@ arena_after arena (start worker operation key length) = start_arena arena worker
 arena_after arena (turns worker count) = after_turns arena worker count
 arena_after arena (list room) = arena
 arena_after arena search = arena
+arena_after arena (longest last) = arena
 arena_after arena (look at) = arena
 
 abbrev pub arena_after_all : List ℕ → List Ask → List ℕ
@@ -85,6 +89,13 @@ stored operation = small ∷ start 0 add 5 0 ∷ turns 0 14 ∷ start 0 operatio
 -- and after so many turns of its remove
 abbrev pub removing : ℕ → List Ask
 removing count = stored remove ++ turns 0 count ∷ []
+
+-- on layout 2 only a label from cell 5 to 7 stored; and after so many turns of its remove
+abbrev pub labelled : List Ask
+labelled = small2 ∷ start 0 add 5 3 ∷ turns 0 14 ∷ []
+
+abbrev pub unlabelling : ℕ → List Ask
+unlabelling count = labelled ++ start 0 remove 5 0 ∷ turns 0 count ∷ []
 
 -- two adds on an empty set: worker 0 has taken pred, and worker 1 wants it
 abbrev pub two_adds : List Ask
@@ -134,7 +145,7 @@ cases =
     ∷ row 28 (small ∷ []) (start 0 add 5 1) (refusing BadCall)
     -- alone on an empty set: add 5 with length 3 takes 14 turns too, and the fifth word of node 2 is then the length
     ∷ row 31 (small2 ∷ start 0 add 5 3 ∷ []) (turns 0 14) (report_reply (Finished Yes))
-    ∷ row 31 (small2 ∷ start 0 add 5 3 ∷ turns 0 14 ∷ []) (look 30) (accepted (3 ∷ []))
+    ∷ row 31 labelled (look 30) (accepted (3 ∷ []))
     -- with only 5 stored, remove 5 marks its node in its tenth turn and unlinks it in its twelfth: from the tenth on no key is listed, and no
     -- room is needed (document 02, A3)
     ∷ row 28 (removing 9) (list 1) (accepted (1 ∷ []))
@@ -149,4 +160,19 @@ cases =
     ∷ row 28 (stored contains) search (accepted (no_node ∷ 3 ∷ []))
     ∷ row 28 (removing 14) search (accepted (no_node ∷ 3 ∷ []))
     ∷ row 28 (removing 15) search (accepted (2 ∷ 2 ∷ []))
+    -- with cells 5 to 7 in a label: up to 12 the longest free run is 8 to 12; up to 11 there are two of four cells, and the lower is told; up to 6,
+    -- a cell of the label, it is 1 to 4; from the turn on that marks the label's node its cells are free (document 02, A5)
+    ∷ row 31 labelled (longest 12) (accepted (8 ∷ 5 ∷ []))
+    ∷ row 31 labelled (longest 11) (accepted (1 ∷ 4 ∷ []))
+    ∷ row 31 labelled (longest 6) (accepted (1 ∷ 4 ∷ []))
+    ∷ row 31 (unlabelling 9) (longest 12) (accepted (8 ∷ 5 ∷ []))
+    ∷ row 31 (unlabelling 10) (longest 12) (accepted (1 ∷ 12 ∷ []))
+    -- no label leaves all cells free; one of 65,534 cells leaves none
+    ∷ row 31 (small2 ∷ []) (longest 65534) (accepted (1 ∷ 65534 ∷ []))
+    ∷ row 31 (small2 ∷ start 0 add 1 65534 ∷ turns 0 14 ∷ []) (longest 65534) (accepted (0 ∷ 0 ∷ []))
+    -- last cell 0, or 65,535: 5, on layout 1 too; layout 1: 13
+    ∷ row 31 (small2 ∷ []) (longest 0) (refusing BadCall)
+    ∷ row 31 (small2 ∷ []) (longest 65535) (refusing BadCall)
+    ∷ row 28 (small ∷ []) (longest 0) (refusing BadCall)
+    ∷ row 28 (small ∷ []) (longest 65534) (refusing LengthsMissing)
     ∷ []

@@ -8,7 +8,7 @@ use lib.ListN.{get_or}
 use Rattle.std.specs.Prelude.{Result, Ok, Err}
 use Rattle.worker.specs.Refusals.{Test, refusal_number, judged}
 use Rattle.worker.specs.declared.refusal.Refusal.{Refusal}
-use Rattle.worker.specs.declared.refusal.Refusal.TheVariants.{ShortArena, OddHeader, NoSuchWorker, Busy, BadCall, BrokenRecord, BrokenChain, NoRoom, BadSchedule, BadCounts}
+use Rattle.worker.specs.declared.refusal.Refusal.TheVariants.{ShortArena, OddHeader, NoSuchWorker, Busy, BadCall, BrokenRecord, BrokenChain, NoRoom, BadSchedule, BadCounts, LengthsMissing}
 use Rattle.worker.proofs.RefusalLaws.{NoneHolds, judged_append, judged_passed}
 use Rattle.words.specs.Replies.{Reply, refused, accepted, refusing, reply, replied}
 
@@ -27,7 +27,7 @@ numbered number =
     ∷ BadSchedule
     ∷ BadCounts
     ∷ [])
-    (number - 1) BadCounts
+    (number - 1) LengthsMissing
 
 numbered_back : (refusal : Refusal) → numbered (refusal_number refusal) ≡ refusal
 unfolding numbered
@@ -41,6 +41,7 @@ numbered_back BrokenChain = refl
 numbered_back NoRoom = refl
 numbered_back BadSchedule = refl
 numbered_back BadCounts = refl
+numbered_back LengthsMissing = refl
 
 settled : {A : Type 0} → Reply → (Refusal → A) → A → A
 settled (refused number) refuse accept = refuse (numbered number)

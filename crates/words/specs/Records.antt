@@ -60,3 +60,6 @@ key_at width nodes node = (node_at width nodes node).key
 
 abbrev pub next_at : ℕ → List ℕ → ℕ → ℕ
 next_at width nodes node = (node_at width nodes node).next
+
+abbrev pub length_at : ℕ → List ℕ → ℕ → ℕ
+length_at width nodes node = (node_at width nodes node).length

@@ -1,7 +1,7 @@
 // Worker and node records, read from and written to words.
 ghost use Rattle.std.specs.Prelude.{◌+◌, ◌≡◌, set};
 ghost use Rattle.worker.specs.Node.{without_length};
-ghost use Rattle.words.specs.Records.{Spans, worker_words, worker_at, with_worker, with_node, node_at};
+ghost use Rattle.words.specs.Records.{Spans, worker_words, worker_at, with_worker, with_node, node_at, length_at};
 ghost use Rattle.words.specs.Layout.{word, worker_from, slot, node_from};
 
 use crate::{layout, put, word, write};
@@ -129,5 +129,17 @@ impl<'a> Nodes<'a> {
         ensures { result ≡ without_length (node_at self.entry.width self.entry.words.now node) }
     {
         read_node(self.words, self.width, node)
+    }
+
+    // The length of a node's label: 0 where nodes have none.
+    #[tactic(auto, unfolding(crate::specs::Records::node_at))]
+    pub fn length(self, node: u16) -> u16
+        ensures { result ≡ length_at self.entry.width self.entry.words.now node }
+    {
+        if layout::has_length(self.width) {
+            node_field(self.words, self.width, node, layout::NODE_LENGTH)
+        } else {
+            0
+        }
     }
 }

@@ -1,7 +1,7 @@
--- Refusals in document 01's numbers and words, and the first of them in the given order.
+-- Refusals in the numbers and words of documents 01 and 02, and the first of them in the given order.
 use Rattle.std.specs.Prelude.{ℕ, List, [], ◌∷◌, Bool, cond, codes}
 use Rattle.worker.specs.declared.refusal.Refusal.{Refusal}
-use Rattle.worker.specs.declared.refusal.Refusal.TheVariants.{ShortArena, OddHeader, NoSuchWorker, Busy, BadCall, BrokenRecord, BrokenChain, NoRoom, BadSchedule, BadCounts}
+use Rattle.worker.specs.declared.refusal.Refusal.TheVariants.{ShortArena, OddHeader, NoSuchWorker, Busy, BadCall, BrokenRecord, BrokenChain, NoRoom, BadSchedule, BadCounts, LengthsMissing}
 
 abbrev pub refusal_number : Refusal → ℕ
 refusal_number ShortArena = 1
@@ -14,6 +14,7 @@ refusal_number BrokenChain = 7
 refusal_number NoRoom = 8
 refusal_number BadSchedule = 9
 refusal_number BadCounts = 10
+refusal_number LengthsMissing = 13
 
 abbrev pub refusal_word : Refusal → List ℕ
 refusal_word ShortArena = codes "short board"
@@ -26,6 +27,7 @@ refusal_word BrokenChain = codes "broken chain"
 refusal_word NoRoom = codes "no room"
 refusal_word BadSchedule = codes "bad schedule"
 refusal_word BadCounts = codes "bad counts"
+refusal_word LengthsMissing = codes "lengths missing"
 
 -- a test, and the refusal where it holds
 abbrev pub Test : Type 0

@@ -1,4 +1,4 @@
-// Document 01's refusals: a number and a word each.
+// The refusals of documents 01 and 02: a number and a word each.
 ghost use Rattle.std.specs.Prelude.{◌≡◌, Some};
 ghost use Rattle.worker.specs.Refusals.{refusal_number, refusal_word};
 
@@ -17,6 +17,7 @@ pub enum Refusal {
     NoRoom = 8,
     BadSchedule = 9,
     BadCounts = 10,
+    LengthsMissing = 13,
 }
 
 impl From<Refusal> for u16 {
@@ -42,6 +43,7 @@ impl fmt::Display for Refusal {
             Refusal::NoRoom => "no room",
             Refusal::BadSchedule => "bad schedule",
             Refusal::BadCounts => "bad counts",
+            Refusal::LengthsMissing => "lengths missing",
         })
     }
 }

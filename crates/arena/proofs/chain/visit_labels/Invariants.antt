@@ -1,0 +1,18 @@
+-- The invariant: the walk from here shows the visitor, as it is now, what the whole walk shows the visitor that was lent. Keys rise, so the last key
+-- bounds the steps, and those that are left are enough.
+use Prim.Native.Nat.{ℕ, ◌+◌, ◌≤◌, ◌<◌, ◌-◌}
+use mathlib.Core.Path.{◌≡◌}
+use Rattle.arena.specs.Sets.{walk}
+use Rattle.arena.proofs.Walks.{shown}
+use Rattle.arena.proofs.chain.visit_labels.Given as goal
+
+abbrev pub invariant-loop-at : goal.invariant-loop-at
+invariant-loop-at g l =
+    (l.last < 65536)
+    × (steps : ℕ)
+    × (65536 ≤ l.last + steps)
+    × (shown l.nodes.width l.nodes.words.now l.nodes.count g.V.Visitor.visited l.initial.visitor (walk l.nodes.width l.nodes.words.now l.nodes.count 65536 l.initial.last l.initial.at)
+    ≡ shown l.nodes.width l.nodes.words.now l.nodes.count g.V.Visitor.visited l.visitor (walk l.nodes.width l.nodes.words.now l.nodes.count steps l.last l.at))
+
+abbrev pub decreases-loop-at : goal.decreases-loop-at
+decreases-loop-at g l = 65536 - l.last

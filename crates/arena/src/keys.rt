@@ -1,0 +1,52 @@
+// The keys of a set, for a snapshot.
+ghost use Rattle.std.specs.Prelude.{◌≡◌, ◌++◌, length, drop};
+ghost use Rattle.words.specs.Replies.{reply, replied, written};
+ghost use Rattle.arena.specs.Keys.{listed};
+ghost use Rattle.arena.specs.Snapshot.{count_values, chain_keys, chain_refusals};
+
+use crate::chain::{Label, Visitor, visit_labels};
+use words::Nodes;
+use worker::Refusal;
+
+// The keys shown so far; in a row of fixed length, for there is no heap.
+#[derive(Drop)]
+struct Keys {
+    row: [u16; 1024],
+    count: usize,
+}
+
+impl Visitor for Keys {
+    ghost visited = { listed };
+
+    fn visit(&mut self, label: Label) {
+        if self.count < self.row.len() {
+            self.row[self.count] = label.key;
+            self.count += 1;
+        }
+    }
+}
+
+// The keys of the set.
+pub(crate) fn write_keys(nodes: Nodes, keys: &mut [u16]) -> Result<u16, Refusal>
+    ensures answer { reply count_values result ≡ replied
+        (chain_refusals nodes.entry.width nodes.entry.words.now nodes.entry.count (length keys.old))
+        (count_values (length (chain_keys nodes.entry.width nodes.entry.words.now nodes.entry.count))) }
+    ensures words { keys.new ≡ written
+        (chain_refusals nodes.entry.width nodes.entry.words.now nodes.entry.count (length keys.old))
+        keys.old
+        (chain_keys nodes.entry.width nodes.entry.words.now nodes.entry.count
+        ++ drop (length (chain_keys nodes.entry.width nodes.entry.words.now nodes.entry.count)) keys.old) }
+{
+    // A refusal writes nothing, so the keys wait in a row. There are no more keys than nodes.
+    let mut found = Keys {
+        row: [0; 1024],
+        count: 0,
+    };
+    visit_labels(nodes, &mut found)?;
+    let count = found.count;
+    if keys.len() < count {
+        return Err(Refusal::NoRoom);
+    }
+    keys[..count].copy_from_slice(&found.row[..count]);
+    Ok(count as u16)
+}

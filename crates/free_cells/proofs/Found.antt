@@ -1,0 +1,161 @@
+-- A search has found the longest free run of the cells up to the highest one covered; above it, the labels to come decide.
+use Prim.Native.Nat.{ℕ, suc, ◌+◌, ◌-◌, ◌≤◌, ◌<◌, max}
+use mathlib.Core.Path.{◌≡◌, refl}
+use mathlib.Core.Logic.{◌⊎◌, inl, inr, ⊎_elim}
+use mathlib.Core.List.{List, [], ◌∷◌}
+use mathlib.Core.Bool.{Bool, true, false, cond}
+use native.Mathlib.Nat.{max-eq_left}
+use native.Mathlib.Omega.{arith}
+use lib.Dec.{ltb, eqb}
+use borrow.Author.Tests.{ltb-true, ltb-false, eqb-true, eqb-false}
+use Rattle.std.specs.List.{fold}
+use Rattle.arena.specs.declared.chain.Label.{Label}
+use Rattle.arena.specs.Lists.{Each, none, ◌and◌, ◌ahead◌}
+use Rattle.arena.specs.Sets.{Rising}
+use Rattle.free_cells.specs.declared.FreeRun.{FreeRun}
+use Rattle.free_cells.specs.declared.search.Search.{Search}
+use Rattle.free_cells.specs.FreeCells.{Covers, InNoLabel}
+use Rattle.free_cells.specs.Search.{longer, ended_by, met, found_by}
+
+-- one number is at most another, or above it
+either : (a b : ℕ) → (a ≤ b) ⊎ (b < a)
+either a b = go (ltb b a) refl
+  where
+    go : (t : Bool) → ltb b a ≡ t → (a ≤ b) ⊎ (b < a)
+    go true e = inr (ltb-true b a e)
+    go false e = inl (ltb-false b a e)
+
+-- a cell that is in no label of a list is not in the first, and in none of the others
+not_first : {label : Label} {labels : List Label} {cell : ℕ} → InNoLabel (label ∷ labels) cell → Covers label cell → ⊥
+not_first (first and others) = first
+
+in_no_other : {label : Label} {labels : List Label} {cell : ℕ} → InNoLabel (label ∷ labels) cell → InNoLabel labels cell
+in_no_other (first and others) = others
+
+-- labels with higher keys do not cover a cell
+below_keys : {key cell : ℕ} {labels : List Label} → Each (λ label. key < label.key) labels → cell ≤ key → InNoLabel labels cell
+below_keys none low = none
+below_keys (above and others) low = (λ covers. omega (arith, covers.0)) and below_keys others low
+
+-- each of so many cells from the first on is free, in whatever sense
+abbrev pub All : (ℕ → Type 0) → ℕ → ℕ → Type 0
+All F first length = (cell : ℕ) → first ≤ cell → cell < first + length → F cell
+
+-- the run is the longest of those up to a cell, and the first of those
+pub record Found (F : ℕ → Type 0) (upto : ℕ) (run : FreeRun) : Type 0 where
+  pub free : All F run.first run.length
+  pub ends : run.first + run.length ≤ suc upto
+  pub most : (first length : ℕ) → 1 ≤ length → All F first length → first + length ≤ suc upto →
+      (length ≤ run.length) × (length ≡ run.length → run.first ≤ first)
+  pub none : run.length ≡ 0 → run.first ≡ 0
+
+-- what a search knows, with some labels still to come
+pub record Searching (F : ℕ → Type 0) (labels : List Label) (search : Search) : Type 0 where
+  pub found : Found F search.covered search.longest
+  pub stop : F search.covered → ⊥
+  pub within : (cell : ℕ) → F cell → cell ≤ search.last
+  pub free : (cell : ℕ) → search.covered < cell → cell ≤ search.last → InNoLabel labels cell → F cell
+  pub out : (cell : ℕ) → search.covered < cell → F cell → InNoLabel labels cell
+
+module _ (F : ℕ → Type 0) where
+  -- one more free run, from past the covered cells to `to`, beyond which no cell up to `upto` is free
+  module _ (search : Search) (to upto : ℕ) (found : Found F search.covered search.longest) (stop : F search.covered → ⊥)
+      (ends : to ≤ upto) (wider : search.covered ≤ upto) (free : (cell : ℕ) → search.covered < cell → cell ≤ to → F cell)
+      (after : (cell : ℕ) → search.covered < cell → to < cell → cell ≤ upto → F cell → ⊥) where
+    -- a free run lies below the highest cell covered, or in that run
+    sides : (first length : ℕ) → 1 ≤ length → All F first length → first + length ≤ suc upto →
+        (first + length ≤ suc search.covered) ⊎ ((search.covered < first) × (first + length ≤ suc to))
+    sides first length some all within =
+        ⊎_elim inl
+        (λ past.
+        ⊎_elim (λ low. absurd (stop (all search.covered low (omega arith))))
+        (λ high.
+        ⊎_elim (λ h. inr (high, h))
+        (λ h. absurd (after (first + length - 1) (omega arith) (omega arith) (omega arith) (all (first + length - 1) (omega arith) (omega arith))))
+        (either (first + length) (suc to)))
+        (either first search.covered))
+        (either (first + length) (suc search.covered))
+
+    -- so the longer of the two is the longest up to `upto`, and the earlier of equals is the lower
+    longer_found : Found F upto (longer search to)
+    unfolding longer
+    longer_found = go (ltb search.longest.length (to - search.covered)) refl
+      where
+        past : FreeRun
+        past = record { first = suc search.covered; length = to - search.covered }
+
+        go : (t : Bool) → ltb search.longest.length (to - search.covered) ≡ t → Found F upto (cond t past search.longest)
+        go true e =
+            let more : search.longest.length < to - search.covered = ltb-true _ _ e in
+            record {
+              free = λ cell low high. free cell low (omega arith);
+              ends = omega arith;
+              most = λ first length some all within.
+                  ⊎_elim
+                  (λ low. let old = found.most first length some all low in (omega arith, λ same. omega arith))
+                  (λ high. (omega arith, λ same. omega arith))
+                  (sides first length some all within);
+              none = λ same. omega arith;
+            }
+        go false e =
+            let less : to - search.covered ≤ search.longest.length = ltb-false _ _ e in
+            let old = found.ends in
+            record {
+              free = found.free;
+              ends = omega arith;
+              most = λ first length some all within.
+                  ⊎_elim
+                  (λ low. found.most first length some all low)
+                  (λ high. (omega arith, λ same. omega arith))
+                  (sides first length some all within);
+              none = found.none;
+            }
+
+  -- one more label keeps what a search knows
+  met_keeps : (label : Label) (labels : List Label) (search : Search) → Each (λ other. label.key < other.key) labels →
+      Searching F (label ∷ labels) search → Searching F labels (met search label)
+  unfolding met
+  met_keeps label labels search rising s = go (eqb label.length 0) refl
+    where
+      hit : (cell : ℕ) → F cell → search.covered < cell → label.key ≤ cell → cell < label.key + label.length → ⊥
+      hit cell f above low high = not_first (s.out cell above f) (low, high)
+
+      go : (t : Bool) → eqb label.length 0 ≡ t → Searching F labels (cond t search (ended_by search label))
+      go true e =
+          let empty = eqb-true label.length 0 e in
+          record {
+            found = s.found;
+            stop = s.stop;
+            within = s.within;
+            free = λ cell above low out. s.free cell above low ((λ covers. omega (arith, covers.0, covers.1)) and out);
+            out = λ cell above f. in_no_other (s.out cell above f);
+          }
+      go false e =
+          let some = eqb-false label.length 0 e in
+          record {
+            found =
+                longer_found search _ _ s.found s.stop (omega arith) (omega arith)
+                (λ cell above low. s.free cell above (omega arith) ((λ covers. omega (arith, covers.0)) and below_keys rising (omega arith)))
+                (λ cell above past up f. let in_range = s.within cell f in hit cell f above (omega arith) (omega arith));
+            stop = λ f.
+                ⊎_elim
+                (λ low. s.stop (rw (max-eq_left low) at f))
+                (λ high. hit _ f (omega arith) (omega arith) (omega arith))
+                (either (label.key + label.length - 1) search.covered);
+            within = s.within;
+            free = λ cell above low out. s.free cell (omega arith) low ((λ covers. omega (arith, covers.1)) and out);
+            out = λ cell above f. in_no_other (s.out cell (omega arith) f);
+          }
+
+  -- and so do all of them; at its end a search has found the longest run
+  pub all_found : (labels : List Label) (search : Search) → Rising labels → Searching F labels search →
+      (upto : ℕ) × ((cell : ℕ) → F cell → cell ≤ upto) × Found F upto (found_by (fold met search labels))
+  all_found [] search rising s = (
+    max search.covered search.last,
+    λ cell f. omega (arith, s.within cell f),
+    longer_found search _ _ s.found s.stop (omega arith) (omega arith)
+        (λ cell above low. s.free cell above low none)
+        (λ cell above past up f. omega (arith, s.within cell f)),
+  )
+  all_found (label ∷ labels) search (each ahead rising) s =
+      all_found labels (met search label) rising (met_keeps label labels search each s)

@@ -1,0 +1,19 @@
+-- The last cell is one, the chain is whole and nodes have lengths: so the search was shown all labels of the set.
+use Rattle.std.proofs.Common.{rules, ◌≡◌, true, [], ◌∷◌, sym}
+use Rattle.worker.specs.Worker.{within}
+use Rattle.words.specs.Layout.{has_length}
+use Rattle.words.proofs.Judged.{none_holds}
+use Rattle.arena.specs.Snapshot.{chain_broken}
+use Rattle.free_cells.specs.Search.{longest_free}
+use Rattle.free_cells.specs.LongestFreeRun.{cells_refusals}
+use Rattle.free_cells.proofs.longest_run.Goals as goal
+
+pub returns : goal.returns
+unfolding cells_refusals chain_broken longest_free
+returns c =
+    let nodes = c.args.nodes in
+    let told = c.in_ok-visit_labels.ensures in
+    let unbroken = (none_holds (chain_broken nodes.width nodes.words.now nodes.count ∷ []) [] told.answer).0 in
+    let is_cell : within 1 65534 c.args.last_cell ≡ true = search rules in
+    let lengths : has_length nodes.width ≡ true = sym c.if-not-has_length.ensures in
+    rw (c.end.ensures, told.visitor, c.new-search.ensures, unbroken, is_cell, lengths)
