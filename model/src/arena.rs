@@ -13,6 +13,7 @@ pub const BROKEN_CHAIN: u16 = 7; // broken chain
 pub const NO_ROOM: u16 = 8; // no room
 pub const BAD_SCHEDULE: u16 = 9; // bad schedule
 pub const BAD_COUNTS: u16 = 10; // bad counts
+pub const LENGTHS_MISSING: u16 = 13; // lengths missing
 
 pub const LAYOUT_1: u16 = 1;
 /// Nodes have a fifth word, the length.
@@ -195,13 +196,25 @@ pub fn start(
     Ok(())
 }
 
-/// Writes the keys of the set in rising order (document 01: the roll) and gives their count: marked
-/// nodes are passed over, but their links and keys must be as good as the others'. Keys are gathered
-/// aside, since a refusal writes nothing. Refusals 1, 2, 7, 8.
+/// Writes the keys of the set in rising order (document 01: the roll) and gives their count. Keys are
+/// gathered aside, since a refusal writes nothing. Refusals 1, 2, 7, 8.
 pub fn snapshot(arena: &[u16], out: &mut [u16]) -> Result<usize, u16> {
     let shape = check_header(arena)?;
     let mut keys = [0; MAX_NODES as usize];
     let mut count = 0;
+    walk_set(arena, shape, |at| {
+        keys[count] = arena[at + KEY];
+        count += 1;
+    })?;
+    let room = out.get_mut(..count).ok_or(NO_ROOM)?;
+    room.copy_from_slice(&keys[..count]);
+    Ok(count)
+}
+
+/// Goes along the chain and shows where the record of each node of the set stands, in rising order:
+/// marked nodes are passed over, but their links and keys must be as good as the others'. A refusal
+/// may come after some nodes have been shown. Refusal 7.
+pub fn walk_set(arena: &[u16], shape: Shape, mut show: impl FnMut(usize)) -> Result<(), u16> {
     let mut last_key = arena[shape.node_at(HEAD) + KEY];
     let mut node = arena[shape.node_at(HEAD) + NEXT];
     // Keys must go up, so no node is met twice, and this ends on any arena.
@@ -215,15 +228,12 @@ pub fn snapshot(arena: &[u16], out: &mut [u16]) -> Result<usize, u16> {
             return Err(BROKEN_CHAIN);
         }
         if arena[at + MARK] == 0 {
-            keys[count] = key;
-            count += 1;
+            show(at);
         }
         last_key = key;
         node = arena[at + NEXT];
     }
-    let room = out.get_mut(..count).ok_or(NO_ROOM)?;
-    room.copy_from_slice(&keys[..count]);
-    Ok(count)
+    Ok(())
 }
 
 /// What a set holds of a label; membership goes by the key alone. In layout 1 lengths are 0.
@@ -231,6 +241,17 @@ pub fn snapshot(arena: &[u16], out: &mut [u16]) -> Result<usize, u16> {
 pub struct Label {
     pub key: u16,
     pub length: u16,
+}
+
+impl Label {
+    /// The label of the node whose record stands here.
+    pub fn read(arena: &[u16], shape: Shape, at: usize) -> Label {
+        let record = &arena[at..at + shape.node_words()];
+        Label {
+            key: record[KEY],
+            length: record.get(LENGTH).copied().unwrap_or(0),
+        }
+    }
 }
 
 /// The length that a set holds with a key, if it holds the key.
@@ -251,14 +272,11 @@ pub fn set(arena: &[u16]) -> Vec<Label> {
     let mut node = arena[shape.node_at(HEAD) + NEXT];
     while node != TAIL && node < shape.nodes && !met[node as usize] {
         met[node as usize] = true;
-        let record = &arena[shape.node_at(node)..][..shape.node_words()];
-        if record[MARK] == 0 {
-            labels.push(Label {
-                key: record[KEY],
-                length: record.get(LENGTH).copied().unwrap_or(0),
-            });
+        let at = shape.node_at(node);
+        if arena[at + MARK] == 0 {
+            labels.push(Label::read(arena, shape, at));
         }
-        node = record[NEXT];
+        node = arena[at + NEXT];
     }
     labels
 }

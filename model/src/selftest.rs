@@ -8,8 +8,10 @@ use crate::linearizable::{check_times, check_told, explained};
 use crate::rng::Rng;
 use crate::run::Call;
 use crate::selftest_free;
+use crate::selftest_free_runs;
 use crate::selftest_lengths;
 use crate::selftest_plain;
+use crate::selftest_plain_free_runs;
 use crate::selftest_refusals;
 use crate::selftest_roll;
 use crate::selftest_searches;
@@ -133,6 +135,8 @@ pub fn selftest() -> Checks {
     selftest_searches::searches(&mut checks);
     selftest_words::any_words(&mut checks);
     selftest_plain::plain_runs(&mut checks);
+    selftest_free_runs::free_runs(&mut checks);
+    selftest_plain_free_runs::plain_free_runs(&mut checks);
     checks
 }
 

@@ -1,13 +1,13 @@
 -- A search has found the longest free run of the cells up to the highest one covered; above it, the labels to come decide.
 use Prim.Native.Nat.{ℕ, suc, ◌+◌, ◌-◌, ◌≤◌, ◌<◌, max}
-use mathlib.Core.Path.{◌≡◌, refl}
+use mathlib.Core.Path.{◌≡◌}
 use mathlib.Core.Logic.{◌⊎◌, inl, inr, ⊎_elim}
 use mathlib.Core.List.{List, [], ◌∷◌}
-use mathlib.Core.Bool.{Bool, true, false, cond}
 use native.Mathlib.Nat.{max-eq_left}
 use native.Mathlib.Omega.{arith}
-use lib.Dec.{ltb, eqb}
-use borrow.Author.Tests.{ltb-true, ltb-false, eqb-true, eqb-false}
+use native.Mathlib.Decide.{ℕ_discrete}
+use Rattle.std.proofs.lemmas.Bool.{cases_lt}
+use borrow.Author.Tests.{lt-ltb, le-ltb, eq-eqb, ne_eqb}
 use Rattle.std.specs.List.{fold}
 use Rattle.arena.specs.declared.chain.Label.{Label}
 use Rattle.arena.specs.Lists.{Each, none, ◌and◌, ◌ahead◌}
@@ -15,15 +15,7 @@ use Rattle.arena.specs.Sets.{Rising}
 use Rattle.free_cells.specs.declared.FreeRun.{FreeRun}
 use Rattle.free_cells.specs.declared.search.Search.{Search}
 use Rattle.free_cells.specs.FreeCells.{Covers, InNoLabel}
-use Rattle.free_cells.specs.Search.{longer, ended_by, met, found_by}
-
--- one number is at most another, or above it
-either : (a b : ℕ) → (a ≤ b) ⊎ (b < a)
-either a b = go (ltb b a) refl
-  where
-    go : (t : Bool) → ltb b a ≡ t → (a ≤ b) ⊎ (b < a)
-    go true e = inr (ltb-true b a e)
-    go false e = inl (ltb-false b a e)
+use Rattle.free_cells.specs.Search.{longer, met, found_by}
 
 -- a cell that is in no label of a list is not in the first, and in none of the others
 not_first : {label : Label} {labels : List Label} {cell : ℕ} → InNoLabel (label ∷ labels) cell → Covers label cell → ⊥
@@ -66,86 +58,76 @@ module _ (F : ℕ → Type 0) where
     sides : (first length : ℕ) → 1 ≤ length → All F first length → first + length ≤ suc upto →
         (first + length ≤ suc search.covered) ⊎ ((search.covered < first) × (first + length ≤ suc to))
     sides first length some all within =
-        ⊎_elim inl
+        ⊎_elim
         (λ past.
-        ⊎_elim (λ low. absurd (stop (all search.covered low (omega arith))))
+        ⊎_elim
         (λ high.
-        ⊎_elim (λ h. inr (high, h))
-        (λ h. absurd (after (first + length - 1) (omega arith) (omega arith) (omega arith) (all (first + length - 1) (omega arith) (omega arith))))
-        (either (first + length) (suc to)))
-        (either first search.covered))
-        (either (first + length) (suc search.covered))
+        ⊎_elim (λ h. absurd (after (first + length - 1) (omega arith) (omega arith) (omega arith) (all (first + length - 1) (omega arith) (omega arith))))
+        (λ h. inr (high, h))
+        (cases_lt (suc to) (first + length)))
+        (λ low. absurd (stop (all search.covered low (omega arith))))
+        (cases_lt search.covered first))
+        inl
+        (cases_lt (suc search.covered) (first + length))
 
     -- so the longer of the two is the longest up to `upto`, and the earlier of equals is the lower
     longer_found : Found F upto (longer search to)
     unfolding longer
-    longer_found = go (ltb search.longest.length (to - search.covered)) refl
-      where
-        past : FreeRun
-        past = record { first = suc search.covered; length = to - search.covered }
-
-        go : (t : Bool) → ltb search.longest.length (to - search.covered) ≡ t → Found F upto (cond t past search.longest)
-        go true e =
-            let more : search.longest.length < to - search.covered = ltb-true _ _ e in
-            record {
-              free = λ cell low high. free cell low (omega arith);
-              ends = omega arith;
-              most = λ first length some all within.
-                  ⊎_elim
-                  (λ low. let old = found.most first length some all low in (omega arith, λ same. omega arith))
-                  (λ high. (omega arith, λ same. omega arith))
-                  (sides first length some all within);
-              none = λ same. omega arith;
-            }
-        go false e =
-            let less : to - search.covered ≤ search.longest.length = ltb-false _ _ e in
-            let old = found.ends in
-            record {
-              free = found.free;
-              ends = omega arith;
-              most = λ first length some all within.
-                  ⊎_elim
-                  (λ low. found.most first length some all low)
-                  (λ high. (omega arith, λ same. omega arith))
-                  (sides first length some all within);
-              none = found.none;
-            }
+    longer_found =
+        ⊎_elim
+        (λ more.
+        rw (lt-ltb search.longest.length (to - search.covered) more) (record {
+          free = λ cell low high. free cell low (omega arith);
+          ends = omega arith;
+          most = λ first length some all within.
+              ⊎_elim (λ low. let old = found.most first length some all low in (omega arith, λ same. omega arith))
+              (λ high. (omega arith, λ same. omega arith))
+              (sides first length some all within);
+          none = λ same. omega arith;
+        }))
+        (λ less.
+        let old = found.ends in
+        rw (le-ltb search.longest.length (to - search.covered) less) (record {
+          free = found.free;
+          ends = omega arith;
+          most = λ first length some all within.
+              ⊎_elim (λ low. found.most first length some all low)
+              (λ high. (omega arith, λ same. omega arith))
+              (sides first length some all within);
+          none = found.none;
+        }))
+        (cases_lt search.longest.length (to - search.covered))
 
   -- one more label keeps what a search knows
   met_keeps : (label : Label) (labels : List Label) (search : Search) → Each (λ other. label.key < other.key) labels →
       Searching F (label ∷ labels) search → Searching F labels (met search label)
   unfolding met
-  met_keeps label labels search rising s = go (eqb label.length 0) refl
-    where
-      hit : (cell : ℕ) → F cell → search.covered < cell → label.key ≤ cell → cell < label.key + label.length → ⊥
-      hit cell f above low high = not_first (s.out cell above f) (low, high)
-
-      go : (t : Bool) → eqb label.length 0 ≡ t → Searching F labels (cond t search (ended_by search label))
-      go true e =
-          let empty = eqb-true label.length 0 e in
-          record {
-            found = s.found;
-            stop = s.stop;
-            within = s.within;
-            free = λ cell above low out. s.free cell above low ((λ covers. omega (arith, covers.0, covers.1)) and out);
-            out = λ cell above f. in_no_other (s.out cell above f);
-          }
-      go false e =
-          let some = eqb-false label.length 0 e in
-          record {
-            found =
-                longer_found search _ _ s.found s.stop (omega arith) (omega arith)
-                (λ cell above low. s.free cell above (omega arith) ((λ covers. omega (arith, covers.0)) and below_keys rising (omega arith)))
-                (λ cell above past up f. let in_range = s.within cell f in hit cell f above (omega arith) (omega arith));
-            stop = λ f.
-                ⊎_elim
-                (λ low. s.stop (rw (max-eq_left low) at f))
-                (λ high. hit _ f (omega arith) (omega arith) (omega arith))
-                (either (label.key + label.length - 1) search.covered);
-            within = s.within;
-            free = λ cell above low out. s.free cell (omega arith) low ((λ covers. omega (arith, covers.1)) and out);
-            out = λ cell above f. in_no_other (s.out cell (omega arith) f);
-          }
+  met_keeps label labels search rising s =
+      elim (ℕ_discrete label.length 0) [
+        | yes empty ↦
+            rw (eq-eqb _ _ empty) (record {
+              found = s.found;
+              stop = s.stop;
+              within = s.within;
+              free = λ cell above low out. s.free cell above low ((λ covers. omega (arith, covers.0, covers.1)) and out);
+              out = λ cell above f. in_no_other (s.out cell above f);
+            })
+        | no some ↦
+            let hit : (cell : ℕ) → F cell → search.covered < cell → label.key ≤ cell → cell < label.key + label.length → ⊥
+            = λ cell f above low high. not_first (s.out cell above f) (low, high) in
+            rw (ne_eqb _ _ some) (record {
+              found =
+                  longer_found search _ _ s.found s.stop (omega arith) (omega arith)
+                  (λ cell above low. s.free cell above (omega arith) ((λ covers. omega (arith, covers.0)) and below_keys rising (omega arith)))
+                  (λ cell above past up f. let in_range = s.within cell f in hit cell f above (omega arith) (omega arith));
+              stop = λ f.
+                  ⊎_elim (λ high. hit _ f (omega arith) (omega arith) (omega arith)) (λ low. s.stop (rw (max-eq_left low) at f))
+                  (cases_lt search.covered (label.key + label.length - 1));
+              within = s.within;
+              free = λ cell above low out. s.free cell (omega arith) low ((λ covers. omega (arith, covers.1)) and out);
+              out = λ cell above f. in_no_other (s.out cell (omega arith) f);
+            })
+      ]
 
   -- and so do all of them; at its end a search has found the longest run
   pub all_found : (labels : List Label) (search : Search) → Rising labels → Searching F labels search →

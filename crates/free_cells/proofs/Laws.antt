@@ -1,9 +1,11 @@
 -- The answer is the longest run of the cells from 1 to the last that lie in no label of the set.
-use Prim.Native.Nat.{ℕ, zero, suc, ◌+◌, ◌-◌, ◌≤◌}
+use Prim.Native.Nat.{ℕ, ◌+◌, ◌-◌, ◌≤◌}
 use mathlib.Core.Path.{◌≡◌, refl, sym, ◌∙◌}
+use mathlib.Core.Logic.{⊎_elim}
 use mathlib.Core.Bool.{true}
 use mathlib.Core.List.{List}
 use native.Mathlib.Omega.{arith}
+use Rattle.std.proofs.lemmas.Bool.{cases_lt}
 use Rattle.worker.specs.Worker.{within}
 use Rattle.worker.proofs.RefusalLaws.{NoneHolds, judged_append, none_accepts}
 use Rattle.words.specs.Layout.{has_length, layout_of, nodes_of, node_width, node_part}
@@ -64,29 +66,21 @@ module _ (labels : List Label) (last : ℕ) where
     longest_found =
         record {
           free = searched.2.free;
-          longest = λ other free. longer other free other.length refl;
-          lowest = λ other free same. lower other free same other.length refl;
-          none = (λ zeros cell free. one_cell zeros cell free, λ taken. zeros taken found.length refl);
+          longest = λ other free. ⊎_elim (λ some. (compared other free some).0) (λ empty. omega arith) (cases_lt 0 other.length);
+          lowest = λ other free same.
+              ⊎_elim (λ some. (compared other free some).1 same) (λ empty. omega (arith, searched.2.none (omega arith)))
+              (cases_lt 0 other.length);
+          none = (
+            λ zeros cell free.
+                let one : FreeRun = record { first = cell; length = 1 } in
+                let alone : FreeThroughout labels last one = λ c from to. let same : c ≡ cell = omega arith in rw same free in
+                omega (arith, zeros.1, (compared one alone (omega arith)).0),
+            λ taken.
+                ⊎_elim (λ some. absurd (taken found.first (searched.2.free found.first (omega arith) (omega arith))))
+                (λ empty. (searched.2.none (omega arith), omega arith))
+                (cases_lt 0 found.length),
+          );
         }
-      where
-        longer : (other : FreeRun) → FreeThroughout labels last other → (length : ℕ) → other.length ≡ length → other.length ≤ found.length
-        longer other free zero e = omega arith
-        longer other free (suc length) e = (compared other free (omega arith)).0
-
-        lower : (other : FreeRun) → FreeThroughout labels last other → other.length ≡ found.length → (length : ℕ) → other.length ≡ length →
-            found.first ≤ other.first
-        lower other free same zero e = omega (arith, searched.2.none (omega arith))
-        lower other free same (suc length) e = (compared other free (omega arith)).1 same
-
-        one_cell : (found.first ≡ 0) × (found.length ≡ 0) → (cell : ℕ) → Free labels last cell → ⊥
-        one_cell zeros cell free =
-            let alone : FreeThroughout labels last (record { first = cell; length = 1 })
-            = λ c from to. let same : c ≡ cell = omega arith in rw same free in
-            omega (arith, zeros.1, (compared (record { first = cell; length = 1 }) alone (omega arith)).0)
-
-        zeros : ((cell : ℕ) → Free labels last cell → ⊥) → (length : ℕ) → found.length ≡ length → (found.first ≡ 0) × (found.length ≡ 0)
-        zeros taken zero e = (searched.2.none e, e)
-        zeros taken (suc length) e = absurd (taken found.first (searched.2.free found.first (omega arith) (omega arith)))
 
   -- and there is only one
   pub longest_determined : (a b : FreeRun) → Longest labels last a → Longest labels last b → a ≡ b

@@ -8,14 +8,16 @@ use Rattle.free_cells.specs.declared.FreeRun.{FreeRun}
 abbrev pub Covers : Label → ℕ → Type 0
 Covers label cell = (label.key ≤ cell) × (cell < label.key + label.length)
 
+-- the cell lies in no label
 abbrev pub InNoLabel : List Label → ℕ → Type 0
 InNoLabel labels cell = Each (λ label. Covers label cell → ⊥) labels
 
 module _ (labels : List Label) (last : ℕ) where
-  -- a free cell is one from 1 to the last that lies in no label
+  -- a cell is free that is one from 1 to the last and lies in no label
   abbrev pub Free : ℕ → Type 0
   Free cell = (1 ≤ cell) × (cell ≤ last) × InNoLabel labels cell
 
+  -- and so is each cell of a run
   abbrev pub FreeThroughout : FreeRun → Type 0
   FreeThroughout run = (cell : ℕ) → run.first ≤ cell → cell < run.first + run.length → Free cell
 

@@ -28,6 +28,7 @@ pub fn longest_free_run(arena: &[u16], last_cell: u16) -> Result<FreeRun, Refusa
     longest_run(Arena::new(arena)?.nodes(), last_cell)
 }
 
+// Behind the header test. Nodes without lengths are refused last, so their chain is walked like any other.
 #[tactic(auto, unfolding(crate::specs::LongestFreeRun::cells_refusals, crate::specs::Search::longest_free))]
 fn longest_run(nodes: Nodes, last_cell: u16) -> Result<FreeRun, Refusal>
     ensures { reply run_values result ≡ replied

@@ -1,4 +1,4 @@
-// One pass over the labels of a set, by rising key. No row of cells is kept, so what it costs goes by the labels, however many cells there are.
+// One pass over the labels of a set, by rising key. No row of cells is kept: what it costs goes by the labels, however many cells there are.
 ghost use Rattle.std.specs.Prelude.{◌≡◌};
 ghost use Rattle.free_cells.specs.Search.{begun, longer, met, found_by};
 
@@ -6,7 +6,7 @@ use crate::FreeRun;
 use arena::{Label, Visitor};
 
 // What is known once some labels have been met.
-#[derive(Clone, Copy, Drop)]
+#[derive(Clone, Copy)]
 pub(crate) struct Search {
     last: u16,
     // No label met covers a cell above this one. A label can end past all numbers of cells.

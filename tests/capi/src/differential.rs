@@ -5,8 +5,10 @@ mod chain;
 mod comparer;
 mod coverage;
 mod damaged;
+mod free_runs;
 mod lent;
 mod met;
+mod met_free_runs;
 mod met_lengths;
 mod met_rolls;
 mod met_searches;
@@ -15,9 +17,13 @@ mod reached;
 mod requests;
 mod roots;
 mod schedules;
+mod spread;
 pub mod tally;
 pub mod wrong;
+mod wrong_free_replies;
+mod wrong_free_runs;
 mod wrong_lengths;
+mod wrong_library;
 mod wrong_others;
 mod wrong_runs;
 mod wrong_searches;
@@ -31,8 +37,10 @@ use model::rng::Rng;
 
 use crate::library::{Library, Values};
 use arenas::{Arenas, Kind};
+use chain::Chain;
 use comparer::{Comparer, Outcome};
 use coverage::Column;
+use free_runs::FreeRuns;
 use met::TurnWait;
 use requests::Request;
 use roots::Rooted;
@@ -139,16 +147,19 @@ impl<'a> Examiner<'a> {
         }
     }
 
-    /// Compares on one arena: turn (twice, since it has the most cases), start, snapshot and find_free
-    /// always; init and run, which do not look at what an arena holds, now and then.
+    /// Compares on one arena: turn (twice, since it has the most cases), start and those that write
+    /// nothing in it always; init and run, which do not look at what an arena holds, now and then.
     fn arena(&mut self, number: u64, arenas: &Arenas, rng: &mut Rng) {
         let words = &arenas.words;
+        let chain = Chain::of(words);
+        let chain = chain.as_ref();
         self.tally.arena(Kind::of(number), words);
         self.compare(number, words, &requests::turn(rng, arenas));
         self.compare(number, words, &requests::turn(rng, arenas));
         self.compare(number, words, &requests::start(rng, arenas));
-        self.compare(number, words, &requests::snapshot(rng, words));
+        self.compare(number, words, &requests::snapshot(rng, chain));
         self.compare(number, words, &Request::FindFree);
+        self.compare(number, words, &requests::longest_free_run(rng, chain));
         if rng.chance(5) {
             let (length, init) = requests::init(rng);
             self.compare(number, &fitted(words, length), &init);
@@ -195,6 +206,15 @@ impl<'a> Examiner<'a> {
             let rooted = Rooted::of(words).expect("the header was not refused");
             coverage.note_search(rooted.found() == values);
             met.note_search(&rooted, reached);
+        }
+        if let Request::LongestFreeRun { last_cell } = *request {
+            if let Some(values) = Values::read(reply) {
+                let runs = FreeRuns::of(words, last_cell).expect("the arena was not refused");
+                coverage.note_free_run(runs.longest() == values);
+                met.note_free_run(&runs, reached);
+            } else {
+                met.note_no_free_run(words, last_cell, reply);
+            }
         }
         met.note_reply(request, reply, self.comparer.last_run());
         met.note_length(words, request, reply);

@@ -2,6 +2,7 @@
 
 use model::arena;
 use model::free;
+use model::free_run;
 use model::run;
 use model::turn;
 
@@ -17,6 +18,7 @@ pub trait Library: Sync {
     fn turn(&self, arena: &mut [u16], worker: u16) -> u64;
     fn snapshot(&self, arena: &[u16], keys: &mut [u16]) -> u64;
     fn find_free(&self, arena: &[u16]) -> u64;
+    fn longest_free_run(&self, arena: &[u16], last_cell: u16) -> u64;
     fn run(&self, run: Run) -> u64;
 }
 
@@ -88,6 +90,7 @@ mod c {
             keys_length: usize,
         ) -> u64;
         pub fn lazy_list_find_free(arena: *const u16, length: usize) -> u64;
+        pub fn lazy_list_longest_free_run(arena: *const u16, length: usize, last_cell: u16) -> u64;
         pub fn lazy_list_run(
             arena: *mut u16,
             length: usize,
@@ -141,6 +144,10 @@ impl Library for Proved {
 
     fn find_free(&self, arena: &[u16]) -> u64 {
         unsafe { c::lazy_list_find_free(arena.as_ptr(), arena.len()) }
+    }
+
+    fn longest_free_run(&self, arena: &[u16], last_cell: u16) -> u64 {
+        unsafe { c::lazy_list_longest_free_run(arena.as_ptr(), arena.len(), last_cell) }
     }
 
     fn run(&self, run: Run) -> u64 {
@@ -198,7 +205,7 @@ pub const WAITS: u8 = 2;
 pub const FINISHED: u8 = 3;
 
 /// A reply as one number: a refusal's own number, or the values.
-fn number(reply: Result<Values, u16>) -> u64 {
+pub fn number(reply: Result<Values, u16>) -> u64 {
     match reply {
         Ok(values) => values.number(),
         Err(refusal) => u64::from(refusal),
@@ -235,6 +242,15 @@ pub fn found_values(found: free::Found) -> Values {
     }
 }
 
+/// The first cell; the length.
+pub fn free_run_values(run: free_run::FreeRun) -> Values {
+    Values {
+        first: run.first,
+        second: run.length,
+        ..Values::default()
+    }
+}
+
 impl Library for Model {
     fn init(&self, arena: &mut [u16], layout: u16, workers: u16, nodes: u16) -> u64 {
         number(arena::init(arena, layout, workers, nodes).map(|()| Values::default()))
@@ -255,6 +271,10 @@ impl Library for Model {
 
     fn find_free(&self, arena: &[u16]) -> u64 {
         number(free::find_free(arena).map(found_values))
+    }
+
+    fn longest_free_run(&self, arena: &[u16], last_cell: u16) -> u64 {
+        number(free_run::longest_free_run(arena, last_cell).map(free_run_values))
     }
 
     fn run(&self, run: Run) -> u64 {

@@ -10,7 +10,7 @@ use model::turn::{turn, Answer, Report};
 
 use crate::benchmark::measure::Words;
 use crate::benchmark::workloads::{
-    Entries, Entry, Fill, Inits, Runs, SameTurn, Searches, Snapshots,
+    Entries, Entry, Fill, FreeRuns, Inits, Runs, SameTurn, Searches, Snapshots,
 };
 use crate::library::{CALL_WORDS, WAIT_WORDS};
 
@@ -32,12 +32,21 @@ fn fresh(layout: u16, nodes: u16) -> Vec<u16> {
 
 /// An arena of layout 2 whose chain holds the keys 2, 4, 6, and so on.
 fn arena_with_keys(nodes: u16, keys: u16) -> Vec<u16> {
+    let label = |place| Label {
+        key: 2 * place,
+        length: LENGTH,
+    };
+    arena_with_labels(nodes, (1..=keys).map(label))
+}
+
+/// An arena of layout 2 whose chain holds these labels.
+fn arena_with_labels(nodes: u16, labels: impl Iterator<Item = Label>) -> Vec<u16> {
     let mut arena = fresh(LAYOUT_2, nodes);
     let shape = shape_of(&arena);
     let mut last = HEAD;
-    for node in 2..2 + keys {
+    for (node, label) in (2..).zip(labels) {
         let at = shape.node_at(node);
-        let record = [2 * (node - 1), TAIL, 0, 0, LENGTH];
+        let record = [label.key, TAIL, 0, 0, label.length];
         arena[at..at + MAX_NODE_WORDS].copy_from_slice(&record);
         arena[shape.node_at(last) + NEXT] = node;
         last = node;
@@ -259,6 +268,24 @@ pub fn snapshots(nodes: u16) -> Snapshots {
 pub fn searches(nodes: u16) -> Searches {
     Searches {
         words: Words::new(arena_with_keys(nodes, nodes - 2), 0),
+        repeats: REPEATS,
+    }
+}
+
+/// Searches for the longest free run of all cells, where so many labels are spread over them, most of
+/// them ending before the next one begins.
+pub fn free_runs(labels: u16) -> FreeRuns {
+    let mut rng = Rng::new(SEED, 3);
+    let last_cell = 65_534;
+    let step = last_cell / labels;
+    let label = |place| {
+        let key = 1 + place * step;
+        let length = rng.word(1, step + step / 4).min(TAIL_KEY - key);
+        Label { key, length }
+    };
+    FreeRuns {
+        words: Words::new(arena_with_labels(MAX_NODES, (0..labels).map(label)), 0),
+        last_cell,
         repeats: REPEATS,
     }
 }

@@ -1,8 +1,9 @@
 //! The Rust side: what one would write for use, behind the same interface as the proved library.
 
 use model::plain;
+use model::plain_free_run;
 
-use crate::library::{total_words, Library, Model, Run, Start};
+use crate::library::{free_run_values, number, total_words, Library, Model, Run, Start};
 
 /// Calls of the proved library cannot be inlined, so these are not either.
 pub struct PlainRust;
@@ -31,6 +32,12 @@ impl Library for PlainRust {
     #[inline(never)]
     fn find_free(&self, arena: &[u16]) -> u64 {
         Model.find_free(arena)
+    }
+
+    /// Not the model's, which marks every cell.
+    #[inline(never)]
+    fn longest_free_run(&self, arena: &[u16], last_cell: u16) -> u64 {
+        number(plain_free_run::longest_free_run(arena, last_cell).map(free_run_values))
     }
 
     /// Not the model's, which keeps the set at every time.

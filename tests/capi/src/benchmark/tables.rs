@@ -49,6 +49,10 @@ pub fn side_by_side(rounds: usize, show: &mut dyn FnMut(Row)) {
     show(other("snapshot, 1,022 keys", &snapshots, rounds));
     let searches = inputs::searches(1_024);
     show(other("find_free, 1,022 keys, full", &searches, rounds));
+    let mut free_run = |what, labels| show(other(what, &inputs::free_runs(labels), rounds));
+    free_run("longest_free_run, 10 labels", 10);
+    free_run("longest_free_run, 100 labels", 100);
+    free_run("longest_free_run, 1,022 labels", 1_022);
 }
 
 fn other(what: &'static str, work: &impl Workload, rounds: usize) -> Row {

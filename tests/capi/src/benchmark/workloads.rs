@@ -205,3 +205,25 @@ impl Workload for Searches {
         }
     }
 }
+
+pub struct FreeRuns {
+    pub words: Words,
+    pub last_cell: u16,
+    pub repeats: usize,
+}
+
+impl Workload for FreeRuns {
+    fn words(&self) -> &Words {
+        &self.words
+    }
+
+    fn operations(&self) -> usize {
+        self.repeats
+    }
+
+    fn pass<L: Library>(&self, library: &L, words: &mut Words, mut reply: impl FnMut(u64)) {
+        for _ in 0..self.repeats {
+            reply(library.longest_free_run(&words.arena, self.last_cell));
+        }
+    }
+}

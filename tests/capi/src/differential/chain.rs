@@ -1,4 +1,5 @@
-//! The chain of an arena as a snapshot meets it: to choose room by, and to tell what was met.
+//! The chain of an arena as a snapshot meets it: to choose room and cells by, and to tell what was
+//! met.
 
 use model::arena::*;
 
@@ -51,6 +52,10 @@ impl<'a> Chain<'a> {
 
     pub fn word(&self, node: u16, place: usize) -> u16 {
         self.words[self.shape.node_at(node) + place]
+    }
+
+    pub fn label(&self, node: u16) -> Label {
+        Label::read(self.words, self.shape, self.shape.node_at(node))
     }
 
     pub fn is_marked(&self, node: u16) -> bool {

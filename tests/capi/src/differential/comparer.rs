@@ -117,6 +117,9 @@ impl Desk {
                 library.snapshot(self.arena.words(), self.keys.words_mut())
             }
             Request::FindFree => library.find_free(self.arena.words()),
+            Request::LongestFreeRun { last_cell } => {
+                library.longest_free_run(self.arena.words(), last_cell)
+            }
             Request::Run {
                 workers,
                 nodes,

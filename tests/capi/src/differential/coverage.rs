@@ -1,7 +1,7 @@
 //! What the comparison must have met: every reply and every move that the documents know, in both
 //! layouts.
 
-use model::arena::LAYOUTS;
+use model::arena::{LAYOUTS, LENGTHS_MISSING};
 
 use super::requests::EntryPoint;
 use crate::library::{self, Values};
@@ -23,18 +23,25 @@ impl Column {
     }
 }
 
-/// The refusals of each entry point, in document 01's order.
-const REFUSALS: [(EntryPoint, &str, &[u64]); 6] = [
+/// The refusals of each entry point, in the documents' order.
+const REFUSALS: [(EntryPoint, &str, &[u64]); 7] = [
     (EntryPoint::Init, "init", &[10, 1]),
     (EntryPoint::Start, "start", &[1, 2, 3, 6, 4, 5]),
     (EntryPoint::Turn, "turn", &[1, 2, 3, 6, 7]),
     (EntryPoint::Snapshot, "snapshot", &[1, 2, 7, 8]),
     (EntryPoint::FindFree, "find_free", &[1, 2]),
+    (
+        EntryPoint::LongestFreeRun,
+        "longest_free_run",
+        &[1, 2, 5, 7, 13],
+    ),
     (EntryPoint::Run, "run", &[10, 9, 1, 8]),
 ];
 const ACCEPTED: u64 = 0;
+/// Of all refusals, and 0.
+const REPLIES: usize = LENGTHS_MISSING as usize + 1;
 /// What may be met where neither layout is named.
-const WITHOUT_LAYOUT: [(EntryPoint, u64); 9] = [
+const WITHOUT_LAYOUT: [(EntryPoint, u64); 11] = [
     (EntryPoint::Init, 10),
     (EntryPoint::Start, 1),
     (EntryPoint::Start, 2),
@@ -44,16 +51,31 @@ const WITHOUT_LAYOUT: [(EntryPoint, u64); 9] = [
     (EntryPoint::Snapshot, 2),
     (EntryPoint::FindFree, 1),
     (EntryPoint::FindFree, 2),
+    (EntryPoint::LongestFreeRun, 1),
+    (EntryPoint::LongestFreeRun, 2),
 ];
 
-/// What no arena reached from a fresh one may meet. Document 01 says it of turns; for start and
-/// snapshot it follows, since stages stay in their range and keys rise along every chain.
-const NEVER_FROM_FRESH: [(EntryPoint, u64); 4] = [
+/// What no arena reached from a fresh one may meet. Document 01 says it of turns; for the others it
+/// follows, since stages stay in their range and keys rise along every chain.
+const NEVER_FROM_FRESH: [(EntryPoint, u64); 5] = [
     (EntryPoint::Turn, 6),
     (EntryPoint::Turn, 7),
     (EntryPoint::Start, 6),
     (EntryPoint::Snapshot, 7),
+    (EntryPoint::LongestFreeRun, 7),
 ];
+
+/// In which layouts a reply may be met.
+fn layouts(entry_point: EntryPoint, refusal: u64) -> [bool; LAYOUTS.len()] {
+    match (entry_point, refusal) {
+        // A run lays layout 2 alone.
+        (EntryPoint::Run, _) => [false, true],
+        // Layout 1 has no lengths.
+        (EntryPoint::LongestFreeRun, ACCEPTED) => [false, true],
+        (EntryPoint::LongestFreeRun, 13) => [true, false],
+        _ => [true, true],
+    }
+}
 
 /// The stage table: from each stage the stages that a turn may lead to.
 const MOVES: [(usize, &[usize]); 24] = [
@@ -102,7 +124,7 @@ const NO_MOVES: [(usize, usize); 6] = [
 #[derive(Default)]
 pub struct Coverage {
     /// By entry point and refusal, 0 for accepted.
-    replies: [[Counts; 11]; REFUSALS.len()],
+    replies: [[Counts; REPLIES]; REFUSALS.len()],
     /// By stage before the turn and report.
     turns: [[Counts; 30]; 26],
     /// Replies that cannot even be counted above.
@@ -113,6 +135,8 @@ pub struct Coverage {
     not_the_set: u64,
     /// Searches that answer otherwise than what the roots lead to.
     not_by_roots: u64,
+    /// Free runs that are not the first one of the longest that the labels leave.
+    not_the_longest: u64,
 }
 
 impl Coverage {
@@ -150,6 +174,11 @@ impl Coverage {
         self.not_by_roots += u64::from(!is_by_roots);
     }
 
+    /// Notes a free run.
+    pub fn note_free_run(&mut self, is_the_longest: bool) {
+        self.not_the_longest += u64::from(!is_the_longest);
+    }
+
     pub fn merge(&mut self, other: &Coverage) {
         let mine = self.replies.iter_mut().flatten().flatten();
         let mine = mine.chain(self.turns.iter_mut().flatten().flatten());
@@ -162,6 +191,7 @@ impl Coverage {
         self.stray += other.stray;
         self.not_the_set += other.not_the_set;
         self.not_by_roots += other.not_by_roots;
+        self.not_the_longest += other.not_the_longest;
     }
 
     /// Prints the tables and gives for each line whether it is as it must be.
@@ -176,6 +206,7 @@ impl Coverage {
             (self.stray, "waits from fresh for no other busy worker"),
             (self.not_the_set, "snapshots that do not list the set"),
             (self.not_by_roots, "searches that do not go by the roots"),
+            (self.not_the_longest, "free runs that are not the longest"),
         ] {
             good.push(count == 0);
             if count != 0 {
@@ -187,7 +218,7 @@ impl Coverage {
 
     fn print_replies(&self, good: &mut Vec<bool>) {
         for (entry_point, name, allowed) in REFUSALS {
-            for refusal in 0..11 {
+            for refusal in 0..REPLIES as u64 {
                 let counts = self.replies[entry_point as usize][refusal as usize];
                 let is_allowed = refusal == ACCEPTED || allowed.contains(&refusal);
                 let row = match refusal {
@@ -228,14 +259,13 @@ struct Rule {
 impl Rule {
     fn of_reply(entry_point: EntryPoint, refusal: u64, is_allowed: bool, counts: Counts) -> Rule {
         let fresh = is_allowed && !NEVER_FROM_FRESH.contains(&(entry_point, refusal));
-        // A run lays layout 2 alone.
-        let in_1 = entry_point != EntryPoint::Run;
+        let [in_1, in_2] = layouts(entry_point, refusal);
         let neither = WITHOUT_LAYOUT.contains(&(entry_point, refusal));
         let allowed = [
             fresh && in_1,
             is_allowed && in_1,
-            fresh,
-            is_allowed,
+            fresh && in_2,
+            is_allowed && in_2,
             neither,
         ];
         // Arenas in use have nothing broken in them, so they need not meet all.

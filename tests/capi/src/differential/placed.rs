@@ -4,6 +4,7 @@ use model::arena::*;
 use model::rng::Rng;
 
 use super::requests::call_key;
+use super::spread::{any_length, Spread};
 
 /// Words of any length and content; their header is hardly ever good.
 pub fn arbitrary(rng: &mut Rng, words: &mut Vec<u16>) {
@@ -90,16 +91,6 @@ fn often_zero(rng: &mut Rng, usual: u16) -> u16 {
     }
 }
 
-/// Lengths in records, where any word may stand.
-fn any_length(rng: &mut Rng) -> u16 {
-    match rng.range(0, 9) {
-        0..=1 => 0,
-        2..=6 => rng.word(1, 30),
-        7..=8 => rng.word(0, 65_535),
-        _ => *rng.pick(&[1, 65_534, 65_535]),
-    }
-}
-
 fn arbitrary_worker(rng: &mut Rng, shape: Shape) -> [u16; WORKER_WORDS] {
     let stage = usually(rng, 26);
     let operation = usually(rng, 4);
@@ -153,15 +144,15 @@ pub fn build_chain(rng: &mut Rng, words: &mut [u16], shape: Shape) {
     } else {
         rng.index(order.len() + 1)
     };
-    let largest_step = *rng.pick(&[1, 3, 60]);
-    let (mut last, mut key) = (HEAD, HEAD_KEY);
+    let mut spread = Spread::new(rng, length as u16);
+    let mut last = HEAD;
     for (place, &node) in order.iter().enumerate() {
         let record = if place < length {
-            key += rng.word(1, largest_step);
+            let label = spread.next_label(rng);
             words[shape.node_at(last) + NEXT] = node;
             last = node;
             let mark = if rng.chance(12) { some_mark(rng) } else { 0 };
-            [key, TAIL, mark, 0, any_length(rng)]
+            [label.key, TAIL, mark, 0, label.length]
         } else if rng.chance(50) {
             let leads_to = rng.word(0, shape.nodes - 1);
             [usually(rng, 24), leads_to, 1, 0, any_length(rng)]

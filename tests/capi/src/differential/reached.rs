@@ -101,7 +101,14 @@ impl Reached {
                 0 => 65_534,
                 _ => rng.word(1, self.keys),
             };
-            let length = self.length(operation, rng.word(0, TAIL_KEY - key - 1));
+            // Mostly so short that some cells between labels are left.
+            let most = TAIL_KEY - key - 1;
+            let most = if rng.chance(75) {
+                most.min(self.keys)
+            } else {
+                most
+            };
+            let length = self.length(operation, rng.word(0, most));
             let _ = start(&mut self.words, self.worker, operation, key, length);
         } else {
             let _ = turn(&mut self.words, self.worker);

@@ -17,6 +17,7 @@ pub enum EntryPoint {
     Turn,
     Snapshot,
     FindFree,
+    LongestFreeRun,
     Run,
 }
 
@@ -38,6 +39,9 @@ pub enum Request {
         room: usize,
     },
     FindFree,
+    LongestFreeRun {
+        last_cell: u16,
+    },
     /// With so many words for the history and for the waits.
     Run {
         workers: u16,
@@ -56,6 +60,7 @@ impl Request {
             Request::Turn { .. } => EntryPoint::Turn,
             Request::Snapshot { .. } => EntryPoint::Snapshot,
             Request::FindFree => EntryPoint::FindFree,
+            Request::LongestFreeRun { .. } => EntryPoint::LongestFreeRun,
             Request::Run { .. } => EntryPoint::Run,
         }
     }
@@ -81,6 +86,9 @@ impl fmt::Display for Request {
             Request::Turn { worker } => write!(out, "turn worker {worker}"),
             Request::Snapshot { room } => write!(out, "snapshot into {room} words"),
             Request::FindFree => write!(out, "find_free"),
+            Request::LongestFreeRun { last_cell } => {
+                write!(out, "longest_free_run up to cell {last_cell}")
+            }
             Request::Run {
                 workers,
                 nodes,
@@ -171,8 +179,8 @@ pub fn start(rng: &mut Rng, arenas: &Arenas) -> Request {
 
 /// Room for about as many keys as are listed, or as the chain has with the marked ones, which are
 /// passed over.
-pub fn snapshot(rng: &mut Rng, words: &[u16]) -> Request {
-    let count = match Chain::of(words) {
+pub fn snapshot(rng: &mut Rng, chain: Option<&Chain>) -> Request {
+    let count = match chain {
         Some(chain) if rng.chance(50) => chain.nodes.len(),
         Some(chain) => chain.listed(),
         None => 2,
@@ -184,6 +192,38 @@ pub fn snapshot(rng: &mut Rng, words: &[u16]) -> Request {
         _ => rng.index(2 * count + 3),
     };
     Request::Snapshot { room }
+}
+
+/// Up to a cell beside an edge of some label, among the lowest, at an edge of the range, or any.
+pub fn longest_free_run(rng: &mut Rng, chain: Option<&Chain>) -> Request {
+    let few = rng.word(1, 40);
+    let chain = chain.filter(|chain| !chain.nodes.is_empty());
+    let last_cell = match rng.range(0, 99) {
+        0..=4 => *rng.pick(&[0, 65_535]),
+        5..=8 => *rng.pick(&[1, 2, 65_533, 65_534]),
+        9..=11 => rng.word(1, 65_534),
+        12..=84 => chain.map_or(few, |chain| label_edge(rng, chain)),
+        _ => few,
+    };
+    // The model marks every cell, so many cells are rare.
+    let is_slow = (1_000..65_535).contains(&last_cell) && rng.chance(60);
+    Request::LongestFreeRun {
+        last_cell: if is_slow { few } else { last_cell },
+    }
+}
+
+/// Where a label on the chain begins or ends, a marked node's too, or a few cells away. Mostly one of
+/// the farther labels, so that others are before it.
+fn label_edge(rng: &mut Rng, chain: &Chain) -> u16 {
+    let count = chain.nodes.len();
+    let place = rng.index(count).max(rng.index(count));
+    let label = chain.label(chain.nodes[place]);
+    let end = label.key.wrapping_add(label.length);
+    match rng.range(0, 4) {
+        0 => label.key.wrapping_sub(rng.word(0, 1)),
+        1 => end.wrapping_sub(rng.word(1, 2)),
+        _ => end.wrapping_add(rng.word(0, 9)),
+    }
 }
 
 /// Counts, mostly good and small ones, else at an edge of their ranges.

@@ -1,86 +1,20 @@
 //! Libraries with one fault each. The comparison must tell every one of them from the model, or
 //! it would say nothing about the proved library either.
 
+use super::wrong_free_replies::*;
+use super::wrong_free_runs::*;
 use super::wrong_lengths::*;
+use super::wrong_library::*;
 use super::wrong_others::*;
 use super::wrong_runs::*;
 use super::wrong_searches::*;
 use super::wrong_turns::*;
 use super::Comparison;
-use crate::library::{Library, Model, Run, Start};
 
 /// Arenas that a wrong library gets at most.
 const COUNT: u64 = 50_000;
 
-/// An arena, layout, workers and nodes.
-type Init = fn(&mut [u16], u16, u16, u16) -> u64;
-
-/// The model with some entry points replaced.
-struct Wrong {
-    name: &'static str,
-    init: Init,
-    start: fn(&mut [u16], u16, Start) -> u64,
-    turn: fn(&mut [u16], u16) -> u64,
-    snapshot: fn(&[u16], &mut [u16]) -> u64,
-    find_free: fn(&[u16]) -> u64,
-    run: fn(Run) -> u64,
-}
-
-const RIGHT: Wrong = Wrong {
-    name: "the model itself",
-    init: |arena, layout, workers, nodes| Model.init(arena, layout, workers, nodes),
-    start: |arena, worker, call| Model.start(arena, worker, call),
-    turn: |arena, worker| Model.turn(arena, worker),
-    snapshot: |arena, keys| Model.snapshot(arena, keys),
-    find_free: |arena| Model.find_free(arena),
-    run: |run| Model.run(run),
-};
-
-const fn wrong_init(name: &'static str, init: Init) -> Wrong {
-    Wrong {
-        name,
-        init,
-        ..RIGHT
-    }
-}
-
-const fn wrong_start(name: &'static str, start: fn(&mut [u16], u16, Start) -> u64) -> Wrong {
-    Wrong {
-        name,
-        start,
-        ..RIGHT
-    }
-}
-
-const fn wrong_turn(name: &'static str, turn: fn(&mut [u16], u16) -> u64) -> Wrong {
-    Wrong {
-        name,
-        turn,
-        ..RIGHT
-    }
-}
-
-const fn wrong_snapshot(name: &'static str, snapshot: fn(&[u16], &mut [u16]) -> u64) -> Wrong {
-    Wrong {
-        name,
-        snapshot,
-        ..RIGHT
-    }
-}
-
-const fn wrong_search(name: &'static str, find_free: fn(&[u16]) -> u64) -> Wrong {
-    Wrong {
-        name,
-        find_free,
-        ..RIGHT
-    }
-}
-
-const fn wrong_run(name: &'static str, run: fn(Run) -> u64) -> Wrong {
-    Wrong { name, run, ..RIGHT }
-}
-
-const WRONG: [Wrong; 116] = [
+const WRONG: [Wrong; 181] = [
     wrong_init("init writes a word past the total", init_past_total),
     wrong_init("init wants layout 2's words for both", init_more_words),
     wrong_init("init writes the other's total", init_other_total),
@@ -181,6 +115,113 @@ const WRONG: [Wrong; 116] = [
     wrong_search("find_free wants no words past the total", free_whole_arena),
     wrong_search("find_free refuses a stage above 25", free_refuses_stage),
     wrong_search("find_free refuses a broken link", free_refuses_link),
+    wrong_longest("free run: swaps first and length", longest_swapped),
+    wrong_longest("free run: has a report", longest_reports),
+    wrong_longest(
+        "free run: tells each value a place too high",
+        longest_shifted,
+    ),
+    wrong_longest("free run: tells no length", longest_no_length),
+    wrong_longest("free run: tells the last cell", longest_tells_last),
+    wrong_longest("free run: none is M + 1 and 0", longest_none_behind),
+    wrong_longest("free run: none is 1 and 0", longest_none_1),
+    wrong_longest("free run: none is 65,535 and 0", longest_none_65535),
+    wrong_longest("free run: runs on past M", longest_goes_on),
+    wrong_longest("free run: does not look at M", longest_without_last),
+    wrong_longest("free run: looks at M + 1 too", longest_one_more),
+    wrong_longest("free run: ends at 65,534 always", longest_of_all),
+    wrong_longest("free run: looks at cell 0", longest_cell_0),
+    wrong_longest("free run: labels are a cell short", longest_label_short),
+    wrong_longest("free run: labels are a cell long", longest_label_long),
+    wrong_longest("free run: labels begin a cell early", longest_starts_early),
+    wrong_longest("free run: length 0 covers a cell", longest_length_0_is_1),
+    wrong_longest("free run: length 0 parts a run", longest_length_0_parts),
+    wrong_longest("free run: sums in 16 bits", longest_short_sum),
+    wrong_longest(
+        "free run: only an add's lengths cover",
+        longest_good_lengths,
+    ),
+    wrong_longest(
+        "free run: no label covers part of the cells",
+        longest_whole_labels,
+    ),
+    wrong_longest(
+        "free run: an inner label ends the outer",
+        longest_inner_ends,
+    ),
+    wrong_longest("free run: adds up overlapping labels", longest_adds_up),
+    wrong_longest(
+        "free run: forgets the run behind all labels",
+        longest_forgets_last,
+    ),
+    wrong_longest(
+        "free run: forgets the run before all labels",
+        longest_forgets_first,
+    ),
+    wrong_longest(
+        "free run: forgets all runs between labels",
+        longest_ends_alone,
+    ),
+    wrong_longest("free run: takes the last of equals", longest_last_of_equals),
+    wrong_longest("free run: takes the first run", longest_takes_first),
+    wrong_longest("free run: takes the last run", longest_takes_last),
+    wrong_longest("free run: takes no run of one cell", longest_two_cells),
+    wrong_longest("free run: Head has a label", longest_head_label),
+    wrong_longest("free run: Tail has a label", longest_tail_label),
+    wrong_longest("free run: marked labels cover", longest_marked_cover),
+    wrong_longest("free run: only mark 1 is marked", longest_mark_one),
+    wrong_longest("free run: no check of a marked link", longest_marked_link),
+    wrong_longest("free run: no check of a marked key", longest_marked_key),
+    wrong_longest("free run: forgets a marked key", longest_last_label),
+    wrong_longest("free run: ignores marked keys", longest_no_marked_keys),
+    wrong_longest("free run: 13 before 7", longest_5_13_7),
+    wrong_longest("free run: 7 before 5", longest_7_5_13),
+    wrong_longest("free run: 5 last", longest_7_13_5),
+    wrong_longest("free run: 13 before 5", longest_13_5_7),
+    wrong_longest("free run: 13, 7, 5", longest_13_7_5),
+    wrong_longest("free run: 5 before all", longest_5_first),
+    wrong_longest("free run: 5 before 2", longest_5_before_2),
+    wrong_longest(
+        "free run: odd header before short arena",
+        longest_header_first,
+    ),
+    wrong_longest(
+        "free run: wants no words past the total",
+        longest_whole_arena,
+    ),
+    wrong_longest("free run: takes M 0", longest_takes_0),
+    wrong_longest("free run: takes M 65,535", longest_takes_65535),
+    wrong_longest("free run: refuses M 1", longest_refuses_1),
+    wrong_longest("free run: refuses M 65,534", longest_refuses_65534),
+    wrong_longest("free run: layout 1 has lengths of 0", longest_answers_in_1),
+    wrong_longest(
+        "free run: answers in layout 1 where no label is",
+        longest_empty_in_1,
+    ),
+    wrong_longest(
+        "free run: five words to a node in layout 1",
+        longest_wide_in_1,
+    ),
+    wrong_longest(
+        "free run: 13 where no label has a length",
+        longest_13_by_lengths,
+    ),
+    wrong_longest(
+        "free run: refuses lengths no add has",
+        longest_refuses_length,
+    ),
+    wrong_longest("free run: refuses a stage above 25", longest_refuses_stage),
+    wrong_longest("free run: refuses key 65,535", longest_refuses_65535),
+    wrong_longest("free run: looks at Tail's key", longest_tail_key),
+    wrong_longest("free run: looks at Head's mark", longest_head_mark),
+    wrong_longest("free run: checks no chain behind M", longest_stops_behind),
+    wrong_longest("free run: looks at 1,001 labels only", longest_few_labels),
+    wrong_longest("free run: ends where the chain breaks", longest_unchecked),
+    wrong_longest("free run: does not look at Head's key", longest_head_key),
+    wrong_longest(
+        "free run: takes the owner for the length",
+        longest_owner_for_length,
+    ),
     wrong_run("run swaps waits and calls", run_swaps_totals),
     wrong_run("run dates a no by its last reading", run_late_no),
     wrong_run("run names the call after a wait's", run_next_call),
@@ -203,37 +244,16 @@ const WRONG: [Wrong; 116] = [
 ];
 
 /// Without a fault, so that the others are told for theirs and not for what they are made of.
-const FAULTLESS: [Wrong; 3] = [
+const FAULTLESS: [Wrong; 2] = [
     RIGHT,
-    wrong_snapshot("snapshot's own walk", snapshot_walks),
-    wrong_search("find_free's own walks", free_walks),
+    Wrong {
+        name: "what faults begin with",
+        snapshot: snapshot_walks,
+        find_free: free_walks,
+        longest_free_run: longest_passes,
+        ..RIGHT
+    },
 ];
-
-impl Library for Wrong {
-    fn init(&self, arena: &mut [u16], layout: u16, workers: u16, nodes: u16) -> u64 {
-        (self.init)(arena, layout, workers, nodes)
-    }
-
-    fn start(&self, arena: &mut [u16], worker: u16, call: Start) -> u64 {
-        (self.start)(arena, worker, call)
-    }
-
-    fn turn(&self, arena: &mut [u16], worker: u16) -> u64 {
-        (self.turn)(arena, worker)
-    }
-
-    fn snapshot(&self, arena: &[u16], keys: &mut [u16]) -> u64 {
-        (self.snapshot)(arena, keys)
-    }
-
-    fn find_free(&self, arena: &[u16]) -> u64 {
-        (self.find_free)(arena)
-    }
-
-    fn run(&self, run: Run) -> u64 {
-        (self.run)(run)
-    }
-}
 
 /// Tries every wrong library, and those without a fault; gives for each whether it went as it should.
 pub fn check_all(seed: u64) -> Vec<bool> {

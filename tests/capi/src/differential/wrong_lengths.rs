@@ -155,7 +155,7 @@ pub fn start_forgets_length(arena: &mut [u16], worker: u16, call: Start) -> u64 
 }
 
 /// Makes a call on an arena of this layout as if its nodes were those of the other one.
-fn as_other(arena: &mut [u16], layout: u16, call: impl FnOnce(&mut [u16]) -> u64) -> u64 {
+pub fn as_other(arena: &mut [u16], layout: u16, call: impl FnOnce(&mut [u16]) -> u64) -> u64 {
     let shape = match check_header(arena) {
         Ok(shape) if shape.layout == layout => shape,
         _ => return call(arena),

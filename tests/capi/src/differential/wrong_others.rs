@@ -71,20 +71,21 @@ pub fn snapshot_tail_key(arena: &[u16], keys: &mut [u16]) -> u64 {
     Model.snapshot(arena, keys)
 }
 
-/// How a snapshot goes along the chain, for faults with marked nodes.
-struct Walk {
+/// How a snapshot, or the search for a free run, goes along the chain, for faults with marked nodes.
+#[derive(Clone, Copy)]
+pub struct Walk {
     /// By the mark word.
-    is_marked: fn(u16) -> bool,
+    pub is_marked: fn(u16) -> bool,
     /// Whether a marked node's link must lead to a node.
-    checks_link: bool,
+    pub checks_link: bool,
     /// Whether a marked node's key must be above the one before.
-    checks_key: bool,
+    pub checks_key: bool,
     /// Whether the key behind a marked node must be above its own.
-    keeps_key: bool,
+    pub keeps_key: bool,
 }
 
 /// As document 02 has it.
-const RIGHT_WALK: Walk = Walk {
+pub const RIGHT_WALK: Walk = Walk {
     is_marked: |mark| mark != 0,
     checks_link: true,
     checks_key: true,
@@ -93,15 +94,16 @@ const RIGHT_WALK: Walk = Walk {
 
 /// What a walk finds on the chain.
 #[derive(Default)]
-struct Found {
-    listed: Vec<u16>,
+pub struct Found {
+    /// Labels of the set.
+    pub listed: Vec<Label>,
     nodes: usize,
     /// Of the last node, if it is marked.
     last_marked_key: Option<u16>,
 }
 
 impl Walk {
-    fn go(&self, arena: &[u16]) -> Result<Found, u16> {
+    pub fn go(&self, arena: &[u16]) -> Result<Found, u16> {
         let shape = check_header(arena)?;
         let mut found = Found::default();
         let mut at = shape.node_at(HEAD);
@@ -124,7 +126,7 @@ impl Walk {
             if self.keeps_key || !is_marked {
                 last_key = key;
             }
-            found.note(key, is_marked);
+            found.note(Label::read(arena, shape, at), is_marked);
         }
     }
 
@@ -134,20 +136,22 @@ impl Walk {
             Err(refusal) => return u64::from(refusal),
         };
         let count = found.listed.len();
-        match keys.get_mut(..count) {
-            Some(room) => room.copy_from_slice(&found.listed),
-            None => return u64::from(NO_ROOM),
+        let Some(room) = keys.get_mut(..count) else {
+            return u64::from(NO_ROOM);
+        };
+        for (word, label) in room.iter_mut().zip(&found.listed) {
+            *word = label.key;
         }
         ONE_KEY * count as u64
     }
 }
 
 impl Found {
-    fn note(&mut self, key: u16, is_marked: bool) {
+    fn note(&mut self, label: Label, is_marked: bool) {
         self.nodes += 1;
-        self.last_marked_key = is_marked.then_some(key);
+        self.last_marked_key = is_marked.then_some(label.key);
         if !is_marked {
-            self.listed.push(key);
+            self.listed.push(label);
         }
     }
 }
