@@ -3,21 +3,37 @@ use Prim.Native.Nat.{ℕ, zero, suc, ◌+◌, ◌-◌, ◌≤◌, ◌<◌}
 use mathlib.Core.Path.{◌≡◌, refl, ap, ◌∙◌}
 use mathlib.Core.Logic.{◌≢◌}
 use mathlib.Core.List.{List, [], ◌∷◌}
-use mathlib.Core.Bool.{Bool, true, false, cond, not, ◌&&◌, and-eq-true_iff}
+use mathlib.Core.Bool.{Bool, true, false, cond, ◌&&◌}
 use mathlib.Core.Option.{Option, none, some, map, get_or, none-ne-some, some-ne-none}
 use native.Mathlib.Omega.{arith}
 use native.Mathlib.Nat.{suc-add}
 use native.Mathlib.Numerals.{sub-one}
 use lib.Dec.{ltb, eqb}
-use borrow.Author.Tests.{eq-eqb, ne_eqb, ltb-true, not-true, not-false}
+use borrow.Author.Tests.{eq-eqb, ne_eqb, lt-ltb, le-ltb, ltb-true}
+use Rattle.std.specs.Prelude.{Some, None}
 use Rattle.std.specs.List.{fold}
 use Rattle.worker.specs.Node.{without_length, head, tail}
 use Rattle.worker.specs.declared.Node.{Node}
-use Rattle.words.specs.Records.{node_at, key_at, next_at}
+use Rattle.words.specs.Records.{node_at, node_found, key_at, next_at}
 use Rattle.arena.specs.declared.chain.Label.{Label}
 use Rattle.arena.specs.Sets.{is_none, label_at, is_unmarked, labels_at, walk, chain, chain_nodes, chain_labels}
 
 module _ (width : ℕ) (nodes : List ℕ) (count : ℕ) where
+  -- what finding a node says
+  found_is : (node : ℕ) (n : Node) → node_found width nodes count node ≡ Some n → (ltb node count ≡ true) × (n ≡ node_at width nodes node)
+  found_is node n = go (ltb node count)
+    where
+      go : (t : Bool) → cond t (Some (node_at width nodes node)) None ≡ Some n → (t ≡ true) × (n ≡ node_at width nodes node)
+      go true e = (refl, cc)
+      go false e = let z : ◌≡◌ {A = ℕ} 0 1 = cc in absurd (omega arith)
+
+  found_none : (node : ℕ) → node_found width nodes count node ≡ None → ltb node count ≡ false
+  found_none node = go (ltb node count)
+    where
+      go : (t : Bool) → cond t (Some (node_at width nodes node)) None ≡ None → t ≡ false
+      go true e = let z : ◌≡◌ {A = ℕ} 0 1 = cc in absurd (omega arith)
+      go false e = refl
+
   module _ {A : Type 0} (visited : A → Label → A) where
     -- a visitor that has been shown the labels of the nodes that a walk passes
     abbrev pub shown : A → Option (List ℕ) → Option A
@@ -39,26 +55,33 @@ module _ (width : ℕ) (nodes : List ℕ) (count : ℕ) where
       walk_end zero left t = absurd (omega arith)
       walk_end (suc steps) left t = rw (eq-eqb _ _ t)
 
-      module _ (n : Node) (read : n ≡ without_length (node_at width nodes node)) (off : node ≢ tail) where
-        pub walk_break : (steps : ℕ) → not (ltb node count && ltb last n.key) ≡ true →
-            shown visitor (walk width nodes count steps last node) ≡ none
+      module _ (off : node ≢ tail) where
+        pub walk_out : (steps : ℕ) → node_found width nodes count node ≡ None → shown visitor (walk width nodes count steps last node) ≡ none
         unfolding walk
-        walk_break zero k = refl
-        walk_break (suc steps) k =
-            let stops : (ltb node count && ltb last (key_at width nodes node)) ≡ false = not-true _ (rw read at k) in
-            rw (ne_eqb _ _ off, stops)
+        walk_out zero out = refl
+        walk_out (suc steps) out = rw (ne_eqb _ _ off, found_none node out)
 
-        -- where it goes on, one step is less
-        pub walk_on : (steps : ℕ) → 0 < steps → not (ltb node count && ltb last n.key) ≡ false →
-            (unmarked : Bool) → eqb n.mark 0 ≡ unmarked →
-            shown visitor (walk width nodes count steps last node)
-            ≡ shown (cond unmarked (visited visitor (label_at width nodes node)) visitor) (walk width nodes count (steps - 1) n.key n.next)
-        unfolding walk
-        walk_on zero left k unmarked e = absurd (omega arith)
-        walk_on (suc steps) left k unmarked e =
-            let passes : (ltb node count && ltb last (key_at width nodes node)) ≡ true = not-false _ (rw read at k) in
-            rw (read, ne_eqb _ _ off, passes, sub-one)
-            (shown_on visitor node (walk width nodes count steps (key_at width nodes node) (next_at width nodes node)) unmarked (rw read at e))
+        module _ (n : Node) (found : node_found width nodes count node ≡ Some n) where
+          pub walk_falls : (steps : ℕ) → n.key ≤ last → shown visitor (walk width nodes count steps last node) ≡ none
+          unfolding walk
+          walk_falls zero falls = refl
+          walk_falls (suc steps) falls =
+              let is = found_is node n found in
+              let stops : ltb last (key_at width nodes node) ≡ false = le-ltb _ _ (rw is.1 at falls) in
+              rw (ne_eqb _ _ off, is.0, stops)
+
+          -- where it goes on, one step is less
+          pub walk_on : (steps : ℕ) → 0 < steps → last < n.key → (unmarked : Bool) → eqb n.mark 0 ≡ unmarked →
+              shown visitor (walk width nodes count steps last node)
+              ≡ shown (cond unmarked (visited visitor (record { key = n.key; length = n.length })) visitor)
+              (walk width nodes count (steps - 1) n.key n.next)
+          unfolding walk
+          walk_on zero left rises unmarked e = absurd (omega arith)
+          walk_on (suc steps) left rises unmarked e =
+              let is = found_is node n found in
+              let passes : ltb last (key_at width nodes node) ≡ true = lt-ltb _ _ (rw is.1 at rises) in
+              rw (is.1, ne_eqb _ _ off, is.0, passes, sub-one)
+              (shown_on visitor node (walk width nodes count steps (key_at width nodes node) (next_at width nodes node)) unmarked (rw is.1 at e))
 
     -- what the walk from Head says, where it breaks off and where it comes to Tail
     module _ (visitor : A) (first : Node) (read : first ≡ without_length (node_at width nodes head)) where
@@ -79,9 +102,6 @@ module _ (width : ℕ) (nodes : List ℕ) (count : ℕ) where
               (is_none o ≡ false) × (after ≡ fold visited visitor (labels_at width nodes (get_or o [])))
           go none e = absurd (none-ne-some after e)
           go (some places) e = (refl, cc)
-
-  pub rises : (node last key : ℕ) → not (ltb node count && ltb last key) ≡ false → last < key
-  rises node last key k = ltb-true last key ((and-eq-true_iff (ltb node count) (ltb last key)).0 (not-false _ k)).1
 
   -- as keys are words, more steps than 65,536 find the same
   module _ (words : (node : ℕ) → key_at width nodes node < 65536) where

@@ -38,15 +38,14 @@ pub fn visit_labels<V: Visitor>(nodes: Nodes, visitor: &mut V) -> Result<(), Ref
     let mut at = head.next;
     // The links say where it goes on, so no range or slice can be gone through.
     while at != Node::TAIL {
-        let node = nodes.get(at);
-        let unmarked = node.mark == 0;
-        if !((at < nodes.count) & (last < node.key)) {
-            return Err(Refusal::BrokenChain);
-        }
-        if unmarked {
+        let node = match nodes.find(at) {
+            Some(node) if last < node.key => node,
+            _ => return Err(Refusal::BrokenChain),
+        };
+        if node.mark == 0 {
             visitor.visit(Label {
                 key: node.key,
-                length: nodes.length(at),
+                length: node.length,
             });
         }
         last = node.key;

@@ -1,5 +1,5 @@
 -- The answer is the longest run of the cells from 1 to the last that lie in no label of the set.
-use Prim.Native.Nat.{ℕ, ◌+◌, ◌-◌, ◌≤◌}
+use Prim.Native.Nat.{ℕ, ◌+◌, ◌-◌, ◌≤◌, ◌<◌}
 use mathlib.Core.Path.{◌≡◌, refl, sym, ◌∙◌}
 use mathlib.Core.Logic.{⊎_elim}
 use mathlib.Core.Bool.{true}
@@ -23,7 +23,7 @@ use Rattle.free_cells.specs.LongestFreeRun.{run_values, cells_refusals, longest_
 use Rattle.free_cells.proofs.Found.{Found, Searching, all_found}
 
 -- a search begins with no run found, below cell 1
-begins : (labels : List Label) (last : ℕ) → Searching (Free labels last) labels (begun last)
+begins : (labels : List Label) (last : ℕ) → Searching (Free labels last) labels (begun (last + 1))
 begins labels last =
     record {
       found =
@@ -33,9 +33,10 @@ begins labels last =
             most = λ first length some all within. let zeroth = all 0 (omega arith) (omega arith) in absurd (omega (arith, zeroth.0));
             none = λ same. refl;
           };
+      some = omega arith;
       stop = λ f. omega (arith, f.0);
-      within = λ cell f. f.1;
-      free = λ cell above low out. (above, low, out);
+      within = λ cell f. omega (arith, f.1);
+      free = λ cell above low out. (above, omega arith, out);
       out = λ cell above f. f.2;
     }
 
@@ -50,9 +51,9 @@ module _ (labels : List Label) (last : ℕ) where
     found = longest_free labels last
 
     -- what a search has found at its end
-    searched : (upto : ℕ) × ((cell : ℕ) → Free labels last cell → cell ≤ upto) × Found (Free labels last) upto found
+    searched : (end : ℕ) × ((cell : ℕ) → Free labels last cell → cell < end) × Found (Free labels last) end found
     unfolding longest_free
-    searched = all_found (Free labels last) labels (begun last) rising (begins labels last)
+    searched = all_found (Free labels last) labels (begun (last + 1)) rising (begins labels last)
 
     -- a free run ends by the last cell, so it is among those that the search compares
     compared : (other : FreeRun) → FreeThroughout labels last other → 1 ≤ other.length →

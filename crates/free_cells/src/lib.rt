@@ -38,10 +38,10 @@ fn longest_run(nodes: Nodes, last_cell: u16) -> Result<FreeRun, Refusal>
     if !(1..=65_534).contains(&last_cell) {
         return Err(Refusal::BadCall);
     }
-    let mut search = Search::new(last_cell);
+    let mut search = Search::new(last_cell + 1);
     visit_labels(nodes, &mut search)?;
     if !layout::has_length(nodes.width) {
         return Err(Refusal::LengthsMissing);
     }
-    Ok(search.end())
+    Ok(search.found())
 }

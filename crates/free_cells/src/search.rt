@@ -8,20 +8,21 @@ use arena::{Label, Visitor};
 // What is known once some labels have been met.
 #[derive(Clone, Copy)]
 pub(crate) struct Search {
-    last: u16,
-    // No label met covers a cell above this one. A label can end past all numbers of cells.
-    covered: u32,
+    // The cell behind the last.
+    end: u16,
+    // The cell behind all those that labels cover. A label can end past all numbers of cells.
+    from: u32,
     // The longest free run up to there.
     longest: FreeRun,
 }
 
 impl Search {
-    pub(crate) fn new(last: u16) -> Self
-        ensures { result ≡ begun last }
+    pub(crate) fn new(end: u16) -> Self
+        ensures { result ≡ begun end }
     {
         Search {
-            last,
-            covered: 0,
+            end,
+            from: 1,
             longest: FreeRun {
                 first: 0,
                 length: 0,
@@ -30,21 +31,21 @@ impl Search {
     }
 
     // The longest run, as no more labels come.
-    pub(crate) fn end(self) -> FreeRun
+    pub(crate) fn found(self) -> FreeRun
         ensures { result ≡ found_by self }
     {
-        self.longer(self.last)
+        self.longer(self.end)
     }
 
-    // The longest run so far, or that from past the covered cells up to a cell, where it is longer.
+    // The longest run so far, or that from behind the covered cells up to before a cell, where it is longer.
     #[tactic(auto, unfolding(crate::specs::Search::longer))]
     fn longer(self, to: u16) -> FreeRun
         ensures { result ≡ longer self to }
     {
-        let length = (to as u32).saturating_sub(self.covered) as u16;
+        let length = (to as u32).saturating_sub(self.from) as u16;
         if self.longest.length < length {
             FreeRun {
-                first: (self.covered + 1) as u16,
+                first: self.from as u16,
                 length,
             }
         } else {
@@ -60,10 +61,9 @@ impl Visitor for Search {
     #[tactic(auto, unfolding(crate::specs::Search::met))]
     fn visit(&mut self, label: Label) {
         if label.length != 0 {
-            let before = label.key.saturating_sub(1);
-            let end = (label.key as u32) + (label.length as u32) - 1;
-            self.longest = self.longer(before.min(self.last));
-            self.covered = self.covered.max(end);
+            let behind = (label.key as u32) + (label.length as u32);
+            self.longest = self.longer(label.key.min(self.end));
+            self.from = self.from.max(behind);
         }
     }
 }

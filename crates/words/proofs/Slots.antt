@@ -17,6 +17,10 @@ module _ (width : ℕ) where
   pub slot_within : (n count f : ℕ) → n < count → f < width → slot width n f < width * count
   slot_within n count f h k = let below = slot_below n count f 0 h k in omega arith
 
+  -- and so are its fields, counted on from its key
+  pub words_within : (n count length f : ℕ) → n < count → f < width → width * count ≤ length → slot width n 0 + f < length
+  words_within n count length f h k long = let within = slot_within n count f h k in omega arith
+
   pub slot_same : (n m f g : ℕ) → f < width → g < width → slot width n f ≡ slot width m g → (n ≡ m) × (f ≡ g)
   slot_same n m f g h k e =
       elim (dec_lt n m) [

@@ -1,5 +1,5 @@
 -- Worker and node records as words of an arena.
-use Rattle.std.specs.Prelude.{ℕ, ◌+◌, ◌*◌, ◌≤◌, ◌<◌, ◌⊎◌, List, [], ◌∷◌, cond, length, take}
+use Rattle.std.specs.Prelude.{ℕ, ◌+◌, ◌*◌, ◌≤◌, ◌<◌, ◌⊎◌, List, [], ◌∷◌, Option, Some, None, cond, length, take, ltb}
 use Rattle.std.proofs.lemmas.List.Edits.{sets}
 use Rattle.worker.specs.declared.Node.{Node}
 use Rattle.worker.specs.declared.Worker.{Worker}
@@ -51,15 +51,16 @@ node_at width nodes node =
       length = cond (has_length width) (word nodes (slot width node node_length)) 0;
     }
 
--- the part has a word for the next of each of so many nodes, and the nodes can be counted
+-- the part has words for the key, next, mark and owner of each of so many nodes, and the nodes can be counted
 abbrev pub Spans : ℕ → ℕ → List ℕ → Type 0
-Spans width count nodes = (node_next < width) × (width * count ≤ length nodes) × (count ≤ 1024)
+Spans width count nodes = (node_owner < width) × (width * count ≤ length nodes) × (count ≤ 1024)
+
+-- the node of a number, if there is one
+abbrev pub node_found : ℕ → List ℕ → ℕ → ℕ → Option Node
+node_found width nodes count node = cond (ltb node count) (Some (node_at width nodes node)) None
 
 abbrev pub key_at : ℕ → List ℕ → ℕ → ℕ
 key_at width nodes node = (node_at width nodes node).key
 
 abbrev pub next_at : ℕ → List ℕ → ℕ → ℕ
 next_at width nodes node = (node_at width nodes node).next
-
-abbrev pub length_at : ℕ → List ℕ → ℕ → ℕ
-length_at width nodes node = (node_at width nodes node).length

@@ -1,7 +1,7 @@
 // Worker and node records, read from and written to words.
 ghost use Rattle.std.specs.Prelude.{◌+◌, ◌≡◌, set};
 ghost use Rattle.worker.specs.Node.{without_length};
-ghost use Rattle.words.specs.Records.{Spans, worker_words, worker_at, with_worker, with_node, node_at, length_at};
+ghost use Rattle.words.specs.Records.{Spans, worker_words, worker_at, with_worker, with_node, node_at, node_found};
 ghost use Rattle.words.specs.Layout.{word, worker_from, slot, node_from};
 
 use crate::{layout, put, word, write};
@@ -131,15 +131,22 @@ impl<'a> Nodes<'a> {
         read_node(self.words, self.width, node)
     }
 
-    // The length of a node's label: 0 where nodes have none.
-    #[tactic(auto, unfolding(crate::specs::Records::node_at))]
-    pub fn length(self, node: u16) -> u16
-        ensures { result ≡ length_at self.entry.width self.entry.words.now node }
+    // A node with its length, if there is one of that number. Its words are there, so no index is tested.
+    #[tactic(auto, unfolding(crate::specs::Records::node_at), using(crate::proofs::Slots::words_within))]
+    pub fn find(self, node: u16) -> Option<Node>
+        ensures { result ≡ node_found self.entry.width self.entry.words.now self.entry.count node }
     {
-        if layout::has_length(self.width) {
-            node_field(self.words, self.width, node, layout::NODE_LENGTH)
-        } else {
-            0
+        if self.count <= node {
+            return None;
         }
+        let at = layout::slot(self.width, node, layout::NODE_KEY);
+        let lengths = layout::has_length(self.width);
+        Some(Node {
+            key: self.words[at],
+            next: self.words[at + 1],
+            mark: self.words[at + 2],
+            owner: self.words[at + 3],
+            length: if lengths { self.words[at + 4] } else { 0 },
+        })
     }
 }

@@ -16,4 +16,4 @@ returns c =
     let unbroken = (none_holds (chain_broken nodes.width nodes.words.now nodes.count ∷ []) [] told.answer).0 in
     let is_cell : within 1 65534 c.args.last_cell ≡ true = search rules in
     let lengths : has_length nodes.width ≡ true = sym c.if-not-has_length.ensures in
-    rw (c.end.ensures, told.visitor, c.new-search.ensures, unbroken, is_cell, lengths)
+    rw (c.found.ensures, told.visitor, c.new-search.ensures, unbroken, is_cell, lengths)

@@ -1,64 +1,59 @@
 use Prim.Native.Nat.{◌-◌}
-use mathlib.Core.Path.{◌≡◌, refl, ◌∙◌}
+use mathlib.Core.Path.{refl, sym, ◌∙◌}
 use mathlib.Core.Bool.{true, false}
 use native.Mathlib.Omega.{arith}
 use borrow.Author.Tests.{eq-eqb, ne_eqb}
-use Rattle.arena.specs.Sets.{label_at}
 use Rattle.arena.specs.Snapshot.{chain_broken}
-use Rattle.arena.proofs.Walks.{walk_end, walk_break, walk_on, rises, broken, whole}
+use Rattle.arena.proofs.Walks.{walk_end, walk_out, walk_falls, walk_on, broken, whole}
 use Rattle.arena.proofs.chain.visit_labels.Goals as goal
 
 pub loop-at-init : goal.loop-at-init
 loop-at-init g c = (omega arith, 65536, omega arith, refl)
 
-pub returns-then-not-at-nodes : goal.returns-then-not-at-nodes
+pub returns-in_default-clause-answer : goal.returns-in_default-clause-answer
 unfolding chain_broken
-returns-then-not-at-nodes g c =
+returns-in_default-clause-answer g c =
     let loop = c.loop-at in
     let first = c.get-head in
     let nodes = c.args.nodes in
-    let breaks = broken nodes.width nodes.words.now nodes.count g.V.Visitor.visited c.args.visitor.now first.result first.ensures
+    rw (broken nodes.width nodes.words.now nodes.count g.V.Visitor.visited c.args.visitor.now first.result first.ensures
     (loop.invariant.3
-    ∙ walk_break nodes.width nodes.words.now nodes.count g.V.Visitor.visited loop.visitor loop.last loop.at _
-    c.get-node.ensures c.loop-at-test.true loop.invariant.1 c.if-not-at-nodes.true-raw) in
-    record { answer = rw breaks; visitor = tt }
+    ∙ walk_falls nodes.width nodes.words.now nodes.count g.V.Visitor.visited loop.visitor loop.last loop.at c.loop-at-test.true
+    _ (sym c.find.ensures ∙ c.in-Some.is) loop.invariant.1 c.if-last-node.false))
 
-pub loop-at-smaller-then-unmarked : goal.loop-at-smaller-then-unmarked
-loop-at-smaller-then-unmarked g c =
-    omega (arith, rises c.args.nodes.width c.args.nodes.words.now c.args.nodes.count c.loop-at.at _ _ c.if-not-at-nodes.false-raw)
-
-pub loop-at-preserved-then-unmarked : goal.loop-at-preserved-then-unmarked
-loop-at-preserved-then-unmarked g c =
+pub returns-in_default-2-clause-answer : goal.returns-in_default-2-clause-answer
+unfolding chain_broken
+returns-in_default-2-clause-answer g c =
     let loop = c.loop-at in
+    let first = c.get-head in
     let nodes = c.args.nodes in
-    let risen = rises nodes.width nodes.words.now nodes.count loop.at _ _ c.if-not-at-nodes.false-raw in
-    let seen : c.visit.new.self ≡ g.V.Visitor.visited loop.visitor (label_at nodes.width nodes.words.now loop.at)
-    = c.visit.ensures ∙ rw (c.length.ensures, c.get-node.ensures) in (
+    rw (broken nodes.width nodes.words.now nodes.count g.V.Visitor.visited c.args.visitor.now first.result first.ensures
+    (loop.invariant.3
+    ∙ walk_out nodes.width nodes.words.now nodes.count g.V.Visitor.visited loop.visitor loop.last loop.at c.loop-at-test.true
+    loop.invariant.1 (sym c.find.ensures ∙ c.in_default.is)))
+
+pub loop-at-preserved-then-node-eq0 : goal.loop-at-preserved-then-node-eq0
+loop-at-preserved-then-node-eq0 g c =
+    let loop = c.loop-at in
+    let nodes = c.args.nodes in (
       omega arith,
       loop.invariant.1 - 1,
-      omega (arith, loop.invariant.2),
-      rw seen (loop.invariant.3
-          ∙ walk_on nodes.width nodes.words.now nodes.count g.V.Visitor.visited loop.visitor loop.last loop.at _
-          c.get-node.ensures c.loop-at-test.true loop.invariant.1 (omega (arith, loop.invariant.2))
-          c.if-not-at-nodes.false-raw true (eq-eqb _ _ c.if-unmarked.true)),
+      omega (arith, loop.invariant.2, c.if-last-node.true),
+      rw c.visit.ensures (loop.invariant.3
+          ∙ walk_on nodes.width nodes.words.now nodes.count g.V.Visitor.visited loop.visitor loop.last loop.at c.loop-at-test.true
+          _ (sym c.find.ensures ∙ c.in-Some.is) loop.invariant.1 (omega (arith, loop.invariant.2)) c.if-last-node.true true (eq-eqb _ _ c.if-node-eq0.true)),
     )
-
-pub loop-at-smaller : goal.loop-at-smaller
-loop-at-smaller g c =
-    omega (arith, rises c.args.nodes.width c.args.nodes.words.now c.args.nodes.count c.loop-at.at _ _ c.if-not-at-nodes.false-raw)
 
 pub loop-at-preserved : goal.loop-at-preserved
 loop-at-preserved g c =
     let loop = c.loop-at in
-    let nodes = c.args.nodes in
-    let risen = rises nodes.width nodes.words.now nodes.count loop.at _ _ c.if-not-at-nodes.false-raw in (
+    let nodes = c.args.nodes in (
       omega arith,
       loop.invariant.1 - 1,
-      omega (arith, loop.invariant.2),
+      omega (arith, loop.invariant.2, c.if-last-node.true),
       loop.invariant.3
-          ∙ walk_on nodes.width nodes.words.now nodes.count g.V.Visitor.visited loop.visitor loop.last loop.at _
-          c.get-node.ensures c.loop-at-test.true loop.invariant.1 (omega (arith, loop.invariant.2))
-          c.if-not-at-nodes.false-raw false (ne_eqb _ _ c.if-unmarked.false),
+          ∙ walk_on nodes.width nodes.words.now nodes.count g.V.Visitor.visited loop.visitor loop.last loop.at c.loop-at-test.true
+          _ (sym c.find.ensures ∙ c.in-Some.is) loop.invariant.1 (omega (arith, loop.invariant.2)) c.if-last-node.true false (ne_eqb _ _ c.if-node-eq0.false),
     )
 
 pub returns : goal.returns
