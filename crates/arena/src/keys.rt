@@ -12,15 +12,16 @@ use worker::Refusal;
 #[derive(Drop)]
 struct Keys {
     row: [u16; 1024],
-    count: usize,
+    count: u16,
 }
 
 impl Visitor for Keys {
     ghost visited = { listed };
 
     fn visit(&mut self, label: Label) {
-        if self.count < self.row.len() {
-            self.row[self.count] = label.key;
+        let end = self.count as usize;
+        if end < self.row.len() {
+            self.row[end] = label.key;
             self.count += 1;
         }
     }
@@ -43,10 +44,10 @@ pub(crate) fn write_keys(nodes: Nodes, keys: &mut [u16]) -> Result<u16, Refusal>
         count: 0,
     };
     visit_labels(nodes, &mut found)?;
-    let count = found.count;
-    if keys.len() < count {
+    let end = found.count as usize;
+    if keys.len() < end {
         return Err(Refusal::NoRoom);
     }
-    keys[..count].copy_from_slice(&found.row[..count]);
-    Ok(count as u16)
+    keys[..end].copy_from_slice(&found.row[..end]);
+    Ok(found.count)
 }

@@ -14,12 +14,12 @@ returns-in_err-visit_labels c =
       words = sym (keys_broken nodes.width nodes.words.now nodes.count _ _ _ told);
     }
 
-pub returns-then-keys-count : goal.returns-then-keys-count
-returns-then-keys-count c =
+pub returns-then-keys-end : goal.returns-then-keys-end
+returns-then-keys-end c =
     let nodes = c.args.nodes in
     let told = c.in_ok-visit_labels.ensures in
     let all = keys_listed nodes.width nodes.words.now nodes.count _ nodes.spans.2 told.visitor in
-    let short = rw all.0 at c.if-keys-count.true in
+    let short = rw all.0 at c.if-keys-end.true in
     record {
       answer = sym (keys_short nodes.width nodes.words.now nodes.count _ _ _ told.answer short);
       words = sym (keys_short nodes.width nodes.words.now nodes.count _ _ _ told.answer short);
@@ -30,18 +30,13 @@ shared_ref_as_front-copy_from_slice c =
     let nodes = c.args.nodes in
     omega (arith, keys_listed nodes.width nodes.words.now nodes.count _ nodes.spans.2 c.in_ok-visit_labels.ensures.visitor)
 
-pub overflow_cast-result : goal.overflow_cast-result
-overflow_cast-result c =
-    let nodes = c.args.nodes in
-    omega (arith, keys_listed nodes.width nodes.words.now nodes.count _ nodes.spans.2 c.in_ok-visit_labels.ensures.visitor)
-
 pub returns : goal.returns
 returns c =
     let nodes = c.args.nodes in
     let told = c.in_ok-visit_labels.ensures in
     let found = c.visit_labels.new.visitor in
     let all = keys_listed nodes.width nodes.words.now nodes.count _ nodes.spans.2 told.visitor in
-    let fits = rw all.0 at c.if-keys-count.false in
+    let fits = rw all.0 at c.if-keys-end.false in
     record {
       answer = rw all.0 (sym (keys_fit nodes.width nodes.words.now nodes.count _ _ _ told.answer fits));
       words =
