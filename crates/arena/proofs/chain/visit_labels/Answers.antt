@@ -1,3 +1,4 @@
+-- A turn of the loop is a step of the definition's walk.
 use Prim.Native.Nat.{◌-◌}
 use mathlib.Core.Path.{refl, sym, ◌∙◌}
 use mathlib.Core.Bool.{true, false}
