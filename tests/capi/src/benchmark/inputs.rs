@@ -9,9 +9,7 @@ use model::run::ENTRY_WORDS;
 use model::turn::{turn, Answer, Report};
 
 use crate::benchmark::measure::Words;
-use crate::benchmark::workloads::{
-    Entries, Entry, Fill, FreeRuns, Inits, Runs, SameTurn, Searches, Snapshots,
-};
+use crate::benchmark::workloads::{Call, Entries, Entry, Fill, Repeated, Runs, SameTurn};
 use crate::library::{CALL_WORDS, WAIT_WORDS};
 
 const SEED: u64 = 5;
@@ -245,36 +243,38 @@ fn waits_in(entries: &[Entry], nodes: u16) -> usize {
     run.map_or(0, |totals| totals.waits as usize)
 }
 
-pub fn inits(layout: u16, nodes: u16) -> Inits {
-    Inits {
-        words: Words::new(vec![0; fresh(layout, nodes).len()], 0),
+/// The same call again and again, on an arena and so many words beside it.
+fn repeated(arena: Vec<u16>, out: usize, call: Call) -> Repeated {
+    Repeated {
+        words: Words::new(arena, out),
+        call,
+        repeats: REPEATS,
+    }
+}
+
+pub fn inits(layout: u16, nodes: u16) -> Repeated {
+    let init = Call::Init {
         layout,
         workers: WORKERS,
         nodes,
-        repeats: REPEATS,
-    }
+    };
+    repeated(vec![0; fresh(layout, nodes).len()], 0, init)
 }
 
 /// Snapshots of a full chain.
-pub fn snapshots(nodes: u16) -> Snapshots {
+pub fn snapshots(nodes: u16) -> Repeated {
     let keys = nodes - 2;
-    Snapshots {
-        words: Words::new(arena_with_keys(nodes, keys), keys.into()),
-        repeats: REPEATS,
-    }
+    repeated(arena_with_keys(nodes, keys), keys.into(), Call::Snapshot)
 }
 
 /// Searches of a full chain.
-pub fn searches(nodes: u16) -> Searches {
-    Searches {
-        words: Words::new(arena_with_keys(nodes, nodes - 2), 0),
-        repeats: REPEATS,
-    }
+pub fn searches(nodes: u16) -> Repeated {
+    repeated(arena_with_keys(nodes, nodes - 2), 0, Call::FindFree)
 }
 
 /// Searches for the longest free run of all cells, where so many labels are spread over them, most of
 /// them ending before the next one begins.
-pub fn free_runs(labels: u16) -> FreeRuns {
+pub fn free_runs(labels: u16) -> Repeated {
     let mut rng = Rng::new(SEED, 3);
     let last_cell = 65_534;
     let step = last_cell / labels;
@@ -283,9 +283,6 @@ pub fn free_runs(labels: u16) -> FreeRuns {
         let length = rng.word(1, step + step / 4).min(TAIL_KEY - key);
         Label { key, length }
     };
-    FreeRuns {
-        words: Words::new(arena_with_labels(MAX_NODES, (0..labels).map(label)), 0),
-        last_cell,
-        repeats: REPEATS,
-    }
+    let arena = arena_with_labels(MAX_NODES, (0..labels).map(label));
+    repeated(arena, 0, Call::LongestFreeRun { last_cell })
 }

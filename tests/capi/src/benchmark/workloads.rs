@@ -139,37 +139,44 @@ impl Workload for Runs {
     }
 }
 
-pub struct Inits {
-    pub words: Words,
-    pub layout: u16,
-    pub workers: u16,
-    pub nodes: u16,
-    pub repeats: usize,
+/// A call that leaves the words as it finds them, or writes the same anew.
+pub enum Call {
+    Init {
+        layout: u16,
+        workers: u16,
+        nodes: u16,
+    },
+    Snapshot,
+    FindFree,
+    LongestFreeRun {
+        last_cell: u16,
+    },
 }
 
-impl Workload for Inits {
-    fn words(&self) -> &Words {
-        &self.words
-    }
-
-    fn operations(&self) -> usize {
-        self.repeats
-    }
-
-    fn pass<L: Library>(&self, library: &L, words: &mut Words, mut reply: impl FnMut(u64)) {
-        for _ in 0..self.repeats {
-            let arena = &mut words.arena;
-            reply(library.init(arena, self.layout, self.workers, self.nodes));
+impl Call {
+    fn reply<L: Library>(&self, library: &L, words: &mut Words) -> u64 {
+        let arena = &mut words.arena;
+        match *self {
+            Call::Init {
+                layout,
+                workers,
+                nodes,
+            } => library.init(arena, layout, workers, nodes),
+            Call::Snapshot => library.snapshot(arena, &mut words.out),
+            Call::FindFree => library.find_free(arena),
+            Call::LongestFreeRun { last_cell } => library.longest_free_run(arena, last_cell),
         }
     }
 }
 
-pub struct Snapshots {
+/// The same call again and again.
+pub struct Repeated {
     pub words: Words,
+    pub call: Call,
     pub repeats: usize,
 }
 
-impl Workload for Snapshots {
+impl Workload for Repeated {
     fn words(&self) -> &Words {
         &self.words
     }
@@ -180,50 +187,7 @@ impl Workload for Snapshots {
 
     fn pass<L: Library>(&self, library: &L, words: &mut Words, mut reply: impl FnMut(u64)) {
         for _ in 0..self.repeats {
-            reply(library.snapshot(&words.arena, &mut words.out));
-        }
-    }
-}
-
-pub struct Searches {
-    pub words: Words,
-    pub repeats: usize,
-}
-
-impl Workload for Searches {
-    fn words(&self) -> &Words {
-        &self.words
-    }
-
-    fn operations(&self) -> usize {
-        self.repeats
-    }
-
-    fn pass<L: Library>(&self, library: &L, words: &mut Words, mut reply: impl FnMut(u64)) {
-        for _ in 0..self.repeats {
-            reply(library.find_free(&words.arena));
-        }
-    }
-}
-
-pub struct FreeRuns {
-    pub words: Words,
-    pub last_cell: u16,
-    pub repeats: usize,
-}
-
-impl Workload for FreeRuns {
-    fn words(&self) -> &Words {
-        &self.words
-    }
-
-    fn operations(&self) -> usize {
-        self.repeats
-    }
-
-    fn pass<L: Library>(&self, library: &L, words: &mut Words, mut reply: impl FnMut(u64)) {
-        for _ in 0..self.repeats {
-            reply(library.longest_free_run(&words.arena, self.last_cell));
+            reply(self.call.reply(library, words));
         }
     }
 }
