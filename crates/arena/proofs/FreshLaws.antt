@@ -1,5 +1,5 @@
 -- Laws of a fresh arena.
-use Prim.Native.Nat.{ℕ, suc, ◌+◌, ◌*◌, ◌-◌, ◌≤◌}
+use Prim.Native.Nat.{ℕ, suc, ◌+◌, ◌*◌, ◌-◌, ◌≤◌, zero-le}
 use mathlib.Core.Path.{◌≡◌, refl, ap, ◌∙◌}
 use mathlib.Core.List.{List, [], ◌++◌}
 use mathlib.Core.Bool.{true}
@@ -23,17 +23,17 @@ use Rattle.words.proofs.Runs.{sets_append, length_copies, flat_copies}
 use Rattle.arena.specs.Init.{fresh_workers, fresh_nodes, fresh_words, init_refusals}
 
 -- the nodes begin where the workers end
-pub nodes_place : (layout workers nodes : ℕ) → length (header_words layout workers nodes ++ fresh_workers workers) ≡ worker_from workers
+pub nodes_place : (layout workers nodes : ℕ) → length (header_words layout workers nodes 0 ++ fresh_workers workers) ≡ worker_from workers
 unfolding header_words fresh_workers
 nodes_place layout workers nodes = simp (length_copies workers (worker_words idle_worker)) (omega arith)
 
 -- header, workers and nodes, written one after the other, are a fresh arena
 pub fresh_runs : (arena : List ℕ) (layout workers nodes : ℕ) →
-    sets (sets (sets arena 0 (header_words layout workers nodes)) header_width (fresh_workers workers)) (worker_from workers) (fresh_nodes (node_width layout) nodes)
+    sets (sets (sets arena 0 (header_words layout workers nodes 0)) header_width (fresh_workers workers)) (worker_from workers) (fresh_nodes (node_width layout) nodes)
     ≡ sets arena 0 (fresh_words layout workers nodes)
 unfolding fresh_words header_words
 fresh_runs arena layout workers nodes =
-    let header = header_words layout workers nodes in
+    let header = header_words layout workers nodes 0 in
     rw (
       sets_append (header ++ fresh_workers workers) (fresh_nodes (node_width layout) nodes) arena 0,
       zero-add,
@@ -109,5 +109,5 @@ fresh_header layout workers nodes past good =
     let k = counts layout workers nodes good in
     let l = fresh_length layout workers nodes (omega arith) in
     let long : total layout workers nodes ≤ length arena = rw length-append (omega arith) in
-    let right : is_header arena ≡ true = (header_of_some arena (omega arith)).1 (layout, workers, nodes, good, refl) in
+    let right : is_header arena ≡ true = (header_of_some arena (omega arith)).1 (layout, workers, nodes, 0, good, zero-le, refl) in
     rw (le-ltb (length arena) header_width (omega arith), le-ltb (length arena) (total layout workers nodes) long, right)

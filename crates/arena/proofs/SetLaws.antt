@@ -54,7 +54,7 @@ module _ {count : ℕ} {key next : ℕ → ℕ} where
   walked_rises (passed {nodes} h low above onward) = each_of nodes (λ n m. walked_above onward m) ahead walked_rises onward
 
   -- each is on the chain, and is not Tail
-  walked_on : {last node n : ℕ} {nodes : List ℕ} → (node < count → OnChain next count node) → Walked count key next last node nodes →
+  pub walked_on : {last node n : ℕ} {nodes : List ℕ} → (node < count → OnChain next count node) → Walked count key next last node nodes →
       Memᴰ n nodes → OnChain next count n × (n ≢ tail)
   walked_on on (ended e) m = absurd (Memᴰ.not-nil m)
   walked_on on (passed h low above onward) m =

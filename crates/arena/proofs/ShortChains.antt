@@ -1,18 +1,23 @@
--- A chain has at most N less 2 nodes, marked ones too: keys rise along it, so a node that was passed is not met again, nor is Head.
+-- A chain has at most N less 2 nodes, marked ones too: keys rise along it, so a node that was passed is not met again, nor is Head. It has
+-- fewer where a node is not on it.
 use Prim.Native.Nat.{ℕ, zero, suc, ◌+◌, ◌-◌, ◌≤◌, ◌<◌, min, zero-le}
-use mathlib.Core.Path.{ap}
+use mathlib.Core.Path.{◌≡◌, sym, ap}
 use mathlib.Core.Logic.{◌≢◌}
-use mathlib.Core.List.{List}
+use mathlib.Core.List.{List, Memᴰ}
+use mathlib.Core.Bool.{cond}
 use native.Mathlib.Omega.{arith}
 use native.Mathlib.Decide.{ℕ_discrete}
 use lib.ListN.{length, length-map}
+use lib.Dec.{eqb}
+use borrow.Author.Tests.{eq-eqb, ne_eqb}
+use Rattle.std.specs.List.{filter}
 use Rattle.std.proofs.lemmas.List.Sums.{length-filter, count_by-le-length}
 use Rattle.worker.specs.Node.{head}
 use Rattle.words.specs.Layout.{layout_of, nodes_of, node_width, node_part}
 use Rattle.words.specs.Records.{key_at}
-use Rattle.arena.specs.Sets.{is_unmarked, chain_nodes, chain_labels, set_of}
+use Rattle.arena.specs.Sets.{is_unmarked, chain_nodes, chain_labels, set_of, OnChain, top, link}
 use Rattle.arena.specs.Snapshot.{chain_keys, keys_of}
-use Rattle.arena.proofs.SetLaws.{Walked, ended, passed, or_empty, chain_walked}
+use Rattle.arena.proofs.SetLaws.{Walked, ended, passed, walked_on, or_empty, chain_walked, key_of, next_of}
 
 module _ (key : ℕ → ℕ) where
   -- how many of the first nodes behind Tail have a key above some key: 1 or 0 for each
@@ -52,6 +57,35 @@ module _ (key : ℕ → ℕ) where
         walked_few (omega arith) onward,
       )
 
+-- A walk that does not pass a node is one where that node's key is 0, so that it is above no key:
+module _ (key : ℕ → ℕ) (off : ℕ) where
+  without : ℕ → ℕ
+  without n = cond (eqb n off) 0 (key n)
+
+  walked_without : {count : ℕ} {next : ℕ → ℕ} {last node : ℕ} {nodes : List ℕ} → (Memᴰ off nodes → ⊥) → Walked count key next last node nodes →
+      Walked count without next last node nodes
+  unfolding without
+  walked_without out (ended e) = ended e
+  walked_without {count} {next} {last} out (passed {node} {nodes} h low rises onward) =
+      let same : without node ≡ key node = rw (ne_eqb node off (λ q. out (Memᴰ.head (sym q)))) in
+      passed h low (rw same rises) (rw same (walked_without (λ m. out (Memᴰ.tail m)) onward))
+
+  above_without : (last more : ℕ) → 2 ≤ off → off < more + 2 → above without last more < more
+  unfolding above without
+  above_without last zero from to = absurd (omega arith)
+  above_without last (suc more) from to =
+      elim (ℕ_discrete (more + 2) off) [
+        | yes q ↦ rw (eq-eqb (more + 2) off q) (omega (arith, above_few without last more))
+        | no q ↦ omega (arith, above_without last more from (omega arith))
+      ]
+
+  walked_fewer : {count : ℕ} {next : ℕ → ℕ} {last node : ℕ} {nodes : List ℕ} → 2 ≤ off → off < count → key head ≤ last → (Memᴰ off nodes → ⊥) →
+      Walked count key next last node nodes → length nodes < count - 2
+  unfolding without
+  walked_fewer {count} {last} from to low out walked =
+      let head_low : without head ≤ last = rw (ne_eqb head off (omega arith)) low in
+      omega (arith, walked_few without head_low (walked_without out walked), above_without last (count - 2) from (omega arith))
+
 module _ (width : ℕ) (nodes : List ℕ) (count : ℕ) where
   nodes_few : length (chain_nodes width nodes count) ≤ count - 2
   unfolding chain_nodes
@@ -67,6 +101,23 @@ module _ (width : ℕ) (nodes : List ℕ) (count : ℕ) where
   pub chain_few : length (chain_keys width nodes count) ≤ count - 2
   unfolding chain_keys chain_labels
   chain_few = rw (length-map, length-map) (omega (arith, nodes_few, length-filter (is_unmarked width nodes) (chain_nodes width nodes count), count_by-le-length (is_unmarked width nodes) (chain_nodes width nodes count)))
+
+-- and the set of an arena with a node that is not on the chain has fewer labels
+pub set_fewer : (arena : List ℕ) (off : ℕ) → 2 ≤ off → off < nodes_of arena → (OnChain (next_of arena) (nodes_of arena) off → ⊥) →
+    length (set_of arena) < nodes_of arena - 2
+unfolding set_of chain_labels chain_nodes
+set_fewer arena off from to out =
+    let unmarked = is_unmarked (node_width (layout_of arena)) (node_part arena) in
+    rw length-map
+    (or_empty {Holds = λ found. length (filter unmarked found) < nodes_of arena - 2} _ (λ broken. omega arith)
+    (λ found e.
+    let walked = chain_walked (node_width (layout_of arena)) (node_part arena) (nodes_of arena) found e in
+    omega (
+      arith,
+      length-filter unmarked found,
+      count_by-le-length unmarked found,
+      walked_fewer (key_of arena) off from to (omega arith) (λ m. out (walked_on (λ low. link (top (omega arith)) (λ q. omega arith) low) walked m).0) walked,
+    )))
 
 -- so has an arena's set
 pub keys_few : (arena : List ℕ) → length (keys_of arena) ≤ nodes_of arena - 2

@@ -18,9 +18,9 @@ unfoldable pub fresh_nodes : ℕ → ℕ → List ℕ
 fresh_nodes width nodes =
     node_words width head_node ++ node_words width tail_node ++ flatten (replicate (nodes - 2) (node_words width unused_node))
 
--- a fresh arena
+-- a fresh arena, with no label stored
 unfoldable pub fresh_words : ℕ → ℕ → ℕ → List ℕ
-fresh_words layout workers nodes = header_words layout workers nodes ++ fresh_workers workers ++ fresh_nodes (node_width layout) nodes
+fresh_words layout workers nodes = header_words layout workers nodes 0 ++ fresh_workers workers ++ fresh_nodes (node_width layout) nodes
 
 -- order: 10, 1
 unfoldable pub init_refusals : List ℕ → ℕ → ℕ → ℕ → List Test

@@ -4,4 +4,5 @@ pub mod Init
 pub mod Start
 pub mod Sets
 pub mod Snapshot
+pub mod Stored
 pub mod Keys

@@ -33,7 +33,7 @@ pub(crate) fn write_fresh(arena: &mut [u16], counts: Counts)
 {
     let from = layout::worker_from(counts.workers);
     let end = counts.total();
-    write_record(arena, 0, &counts.header());
+    write_record(arena, 0, &counts.header(0));
     write_workers(arena, counts.workers);
     write_nodes(
         &mut arena[from..end],

@@ -1,4 +1,4 @@
-// What may be called on an arena (document 01: board) as a whole: lay a fresh one, start a call on a worker, list its set.
+// What may be called on an arena (document 01: board) as a whole: lay a fresh one, start a call on a worker, list its set, tell its size.
 #![tactic(auto)]
 
 ghost use Rattle.std.specs.Prelude.{◌≡◌, [], length};
@@ -6,6 +6,7 @@ ghost use Rattle.words.specs.Replies.{no_values, reply, replied};
 ghost use Rattle.arena.specs.Init.{init_answer, init_arena};
 ghost use Rattle.arena.specs.Start.{call_refusals, start_refusals, start_answer, start_arena};
 ghost use Rattle.arena.specs.Snapshot.{count_values, snapshot_answer, snapshot_words};
+ghost use Rattle.arena.specs.Stored.{stored_values, stored_answer};
 
 use words::{Arena, layout, records};
 use worker::{Refusal, Worker};
@@ -91,4 +92,12 @@ pub fn snapshot(arena: &[u16], keys: &mut [u16]) -> Result<u16, Refusal>
     ensures words { keys.new ≡ snapshot_words arena.now keys.old }
 {
     keys::write_keys(Arena::new(arena)?.nodes(), keys)
+}
+
+// How many labels are stored, by the header's count (document 02, A6): the chain is not walked. None where the header has no count.
+#[tactic(auto, unfolding(crate::specs::Stored::stored_answer), using(words::proofs::Judged::still_refused, words::proofs::Judged::still_accepted))]
+pub fn stored(arena: &[u16]) -> Result<Option<u16>, Refusal>
+    ensures { reply stored_values result ≡ stored_answer arena.now }
+{
+    Ok(Arena::new(arena)?.stored())
 }

@@ -1,4 +1,4 @@
--- What no turn writes to: the header, the other workers' records, and the words past the total.
+-- What no turn writes to: the header, but for its count, the other workers' records, and the words past the total.
 use Prim.Native.Nat.{ℕ, suc, ◌<◌, ◌≤◌}
 use mathlib.Core.Path.{◌≡◌, refl}
 use mathlib.Core.Logic.{inl, inr}
@@ -11,6 +11,7 @@ use Rattle.worker.specs.declared.refusal.Refusal.{Refusal}
 use Rattle.worker.specs.declared.report.Step.{Step}
 use Rattle.worker.specs.declared.report.Effect.{Effect}
 use Rattle.worker.specs.declared.report.Effect.TheVariants as effect
+use Rattle.worker.specs.declared.report.Growth.{Growth}
 use Rattle.std.specs.Prelude.{Result, Ok, Err}
 use Rattle.worker.proofs.EffectLaws.{EffectBelow, FreeBelow, done_below}
 use Rattle.words.specs.Layout.{word, layout_of, workers_of, nodes_of, nodes_from_of, total_of, node_width, node_from, node_next, node_mark, node_owner}
@@ -20,8 +21,9 @@ use Rattle.words.proofs.HeaderLaws.{Header}
 use Rattle.words.proofs.Slots.{slot_within}
 use Rattle.lazy.specs.Turn.{seen_of, seen_by, turn_on, turn_arena}
 use Rattle.lazy.specs.FindFree.{next_in, roots_in, found_in}
-use Rattle.lazy.specs.Claims.{Touches, Elsewhere}
+use Rattle.lazy.specs.Claims.{Touches, Recounts, Elsewhere}
 use Rattle.lazy.proofs.FreeLaws.{lowest_found}
+use Rattle.lazy.proofs.ChangeLaws.{recounted}
 use Rattle.lazy.proofs.TurnLaws.{turn_leaves, turn_accepted}
 
 -- the node of a turn's effect is below N
@@ -46,7 +48,7 @@ field_inside arena node field header below fits =
 
 module _ (arena : List ℕ) (worker at : ℕ) where
   outside : worker < workers_of arena → Header arena → Elsewhere arena worker at → Outside worker at
-  outside known header (inl before) = before.1
+  outside known header (inl before) = before.2
   outside known header (inr behind) = inr (omega (arith, header.end))
 
   away : (node field : ℕ) → Header arena → Elsewhere arena worker at → node < nodes_of arena → field < node_width (layout_of arena) →
@@ -64,7 +66,12 @@ module _ (arena : List ℕ) (worker at : ℕ) where
   not_touched (effect.Fill node key next length) header else below touched =
       away node touched.0 header else below touched.1 touched.2
 
-  -- a turn leaves the header, the other workers' records and the words past the total
+  not_counted : (g : Growth) → Header arena → Elsewhere arena worker at → Recounts g at → ⊥
+  not_counted g header (inl before) counts = before.1 (recounted g at counts)
+  not_counted g header (inr behind) counts =
+      let same = recounted g at counts in omega (arith, behind, header.end)
+
+  -- a turn leaves the header, but for its count, the other workers' records and the words past the total
   pub turn_inside : Elsewhere arena worker at → word (turn_arena arena worker) at ≡ word arena at
   unfolding turn_arena
   turn_inside else = go (turn_on arena worker) refl
@@ -74,4 +81,4 @@ module _ (arena : List ℕ) (worker at : ℕ) where
       go (Ok step) e =
           let it = turn_accepted arena worker e in
           turn_leaves arena worker at e (outside it.known it.header else)
-          (not_touched step.effect it.header else (effect_below arena worker e))
+          (not_touched step.effect it.header else (effect_below arena worker e)) (not_counted step.growth it.header else)

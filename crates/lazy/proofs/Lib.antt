@@ -7,5 +7,6 @@ pub mod FreeLaws
 pub mod Walk
 pub mod WholeSearch
 pub mod SightLaws
+pub mod ChangeLaws
 pub mod TurnLaws
 pub mod InsideLaws

@@ -1,18 +1,19 @@
 -- What a turn on an arena does and what it leaves: for those who build on it.
-use Prim.Native.Nat.{ℕ, suc, ◌<◌}
+use Prim.Native.Nat.{ℕ, suc, ◌-◌, ◌≤◌, ◌<◌}
 use mathlib.Core.Path.{◌≡◌, refl, sym, ap, ◌∙◌}
-use mathlib.Core.Logic.{◌⊎◌, inl, inr}
+use mathlib.Core.Logic.{◌⊎◌, ◌↔◌, inl, inr}
 use mathlib.Core.List.{List, [], ◌∷◌}
-use mathlib.Core.Bool.{true, cond}
+use mathlib.Core.Bool.{Bool, true, false, cond, true≢false}
 use native.Mathlib.Omega.{arith}
 use lib.Seq.{get_or-set_other}
 use lib.Dec.{leb, eqb}
-use borrow.Author.Tests.{leb-false}
+use native.Mathlib.Decide.{ℕ_discrete}
+use borrow.Author.Tests.{leb-false, eqb-true, eqb-false, eq-eqb, ne_eqb}
 use Rattle.worker.specs.Node.{new_node}
 use Rattle.worker.specs.Refusals.{Test, judged}
-use Rattle.worker.specs.declared.refusal.Refusal.TheVariants.{NoSuchWorker}
+use Rattle.worker.specs.declared.refusal.Refusal.TheVariants.{NoSuchWorker, BrokenCount}
 use Rattle.worker.specs.Report.{report_values, is_still}
-use Rattle.worker.specs.Stages.{takes, step_of}
+use Rattle.worker.specs.Stages.{grown, takes, step_of, growth_at}
 use Rattle.worker.specs.Turn.{turn_of}
 use Rattle.worker.specs.declared.Worker.{Worker}
 use Rattle.std.specs.Prelude.{Option, Some, None}
@@ -21,24 +22,28 @@ use Rattle.worker.specs.declared.report.Report.{Report}
 use Rattle.worker.specs.declared.report.Step.{Step}
 use Rattle.worker.specs.declared.report.Effect.{Effect}
 use Rattle.worker.specs.declared.report.Effect.TheVariants as effect
+use Rattle.worker.specs.declared.report.Growth.{Growth}
+use Rattle.worker.specs.declared.report.Growth.TheVariants.{Stays, OneMore, OneLess}
 use Rattle.std.specs.Prelude.{Result, Ok, Err}
-use Rattle.worker.proofs.RefusalLaws.{judged_append, none_accepts}
+use Rattle.worker.proofs.RefusalLaws.{NoneHolds, judged_append, none_accepts}
 use Rattle.worker.proofs.ReportLaws.{report_told}
 use Rattle.worker.proofs.TurnLaws.{judged_done, done_step, step_row}
 use Rattle.worker.proofs.StillLaws.{still_step}
-use Rattle.words.specs.Layout.{word, layout_of, workers_of, nodes_of, node_width, node_from, node_key, node_next, node_mark, node_owner}
-use Rattle.words.specs.Records.{worker_at, node_words, with_node, Outside}
+use Rattle.worker.proofs.CountLaws.{step_grows}
+use Rattle.words.specs.Layout.{word, layout_of, workers_of, nodes_of, stored_of, stored_in, has_count, stored_at, node_width, node_from, node_key, node_next, node_mark, node_owner}
+use Rattle.words.specs.Records.{worker_at, with_worker, node_words, with_node, Outside}
 use Rattle.words.specs.Replies.{refused, accepted, refusing, reply}
 use Rattle.words.specs.Header.{header_refusals}
-use Rattle.words.proofs.Bounds.{narrow}
+use Rattle.words.proofs.Bounds.{narrow, most_few}
 use Rattle.words.proofs.Judged.{reply_told}
 use Rattle.words.proofs.HeaderLaws.{Header, header_holds}
 use Rattle.words.proofs.Runs.{sets_outside}
 use Rattle.words.proofs.RecordLaws.{node_long, others_stay, rewritten}
 use Rattle.lazy.specs.FindFree.{next_in, roots_in, found_in}
-use Rattle.lazy.specs.Turn.{seen_of, seen_by, worker_refusals, turn_on, outcome_of, with_effect, turned_arena, turn_answer, turn_arena}
-use Rattle.lazy.specs.Claims.{Takes, IsFull, Touches}
+use Rattle.lazy.specs.Turn.{seen_of, seen_by, worker_refusals, is_stored, miscounts, counted, turn_on, outcome_of, with_effect, with_changes, turned_arena, turn_answer, turn_arena}
+use Rattle.lazy.specs.Claims.{Takes, IsFull, Touches, Recounts, count_after, BadCount}
 use Rattle.lazy.proofs.FreeLaws.{lowest_found, lowest_none}
+use Rattle.lazy.proofs.ChangeLaws.{CountFits, effect_before, count_stays, growth_leaves, changes_count}
 
 -- the reply tells the report, so a turn answers just what it comes to
 pub answer_told : (arena : List ℕ) (worker : ℕ) {told : Result Report Refusal} → reply report_values told ≡ turn_answer arena worker →
@@ -68,32 +73,142 @@ effect_leaves arena (effect.Fill node key next length) at out =
     sets_outside (node_words width filled) arena (node_from arena node node_key) at
     (λ k h e. out (k, omega (arith, node_long width filled (narrow (layout_of arena))), omega arith))
 
--- a turn leaves every word but the worker's own record and what its effect writes
+-- a turn leaves every word but the worker's own record, what its effect writes, and the count where it changes
 pub turn_leaves : (arena : List ℕ) (worker at : ℕ) {step : Step} → turn_on arena worker ≡ Ok step →
-    Outside worker at → (Touches arena step.effect at → ⊥) → word (turn_arena arena worker) at ≡ word arena at
+    Outside worker at → (Touches arena step.effect at → ⊥) → (Recounts step.growth at → ⊥) → word (turn_arena arena worker) at ≡ word arena at
 unfolding turn_arena
-turn_leaves arena worker at {step} e outside out =
-    rw e (others_stay (with_effect arena step.effect) worker step.worker at outside ∙ effect_leaves arena step.effect at out)
+turn_leaves arena worker at {step} e outside out same =
+    rw e
+    (others_stay (with_changes arena step) worker step.worker at outside
+    ∙ growth_leaves (with_effect arena step.effect) step.growth at same
+    ∙ effect_leaves arena step.effect at out)
 
--- what a turn that is done tells of its arena: the header is in order, there is such a worker, and its own turn is done
+-- a turn that the count does not refuse is what it was, and its change of the count can be
+counted_done : (arena : List ℕ) (t : Result Step Refusal) {step : Step} → counted arena t ≡ Ok step →
+    (t ≡ Ok step) × (miscounts (nodes_of arena) (stored_in arena) step.growth ≡ false)
+unfolding counted
+counted_done arena (Err refusal) e = let z : ◌≡◌ {A = ℕ} 0 1 = cc in absurd (omega arith)
+counted_done arena (Ok taken) {step} e = go (miscounts (nodes_of arena) (stored_in arena) taken.growth) refl e
+  where
+    done : Result Step Refusal
+    done = Ok taken
+
+    go : (broken : Bool) → miscounts (nodes_of arena) (stored_in arena) taken.growth ≡ broken → cond broken (Err BrokenCount) done ≡ Ok step →
+        (done ≡ Ok step) × (miscounts (nodes_of arena) (stored_in arena) step.growth ≡ false)
+    go true may e = let z : ◌≡◌ {A = ℕ} 0 1 = cc in absurd (omega arith)
+    go false may e =
+        let same : taken ≡ step = cc in (e, ap (λ (t : Step). miscounts (nodes_of arena) (stored_in arena) t.growth) (sym same) ∙ may)
+
+-- a count at which a stage's change cannot be is the one of document 02's words
+bad_count : (nodes : ℕ) (stored : Option ℕ) (stage : ℕ) → (miscounts nodes stored (growth_at stage) ≡ true) ↔ BadCount nodes stored stage
+bad_count nodes stored stage = (forth, back)
+  where
+    is : (number : ℕ) (count : Option ℕ) → is_stored number count ≡ true → count ≡ Some number
+    is number None e = absurd (true≢false (sym e))
+    is number (Some n) e = ap Some (eqb-true n number e)
+
+    forth : miscounts nodes stored (growth_at stage) ≡ true → BadCount nodes stored stage
+    forth e =
+        elim (ℕ_discrete stage 15) [
+          | yes q ↦ inr (q, is (nodes - 2) stored (rw q at e))
+          | no q ↦ elim (ℕ_discrete stage 16) [
+            | yes r ↦ inl (r, is 0 stored (rw r at e))
+            | no r ↦ absurd (true≢false (sym (rw (ne_eqb stage 15 q, ne_eqb stage 16 r) at e)))
+          ]
+        ]
+
+    back : BadCount nodes stored stage → miscounts nodes stored (growth_at stage) ≡ true
+    back (inl (at, empty)) = rw (at, empty)
+    back (inr (at, all)) = rw (at, all) (eq-eqb (nodes - 2) (nodes - 2) refl)
+
+-- a turn that nothing else refuses is refused for the count just there
+pub count_refused : (arena : List ℕ) (worker : ℕ) {step : Step} → NoneHolds (worker_refusals arena worker) →
+    turn_of (worker_at arena worker) (suc worker) (seen_by arena (worker_at arena worker)) ≡ Ok step →
+    (turn_on arena worker ≡ Err BrokenCount) ↔ BadCount (nodes_of arena) (stored_in arena) (worker_at arena worker).stage
+unfolding turn_on counted
+count_refused arena worker {step} none done = (λ e. bad.0 (go miscounting refl (sym comes ∙ e)), λ e. comes ∙ ap decided (bad.1 e))
+  where
+    w : Worker
+    w = worker_at arena worker
+
+    miscounting : Bool
+    miscounting = miscounts (nodes_of arena) (stored_in arena) (growth_at w.stage)
+
+    bad : (miscounting ≡ true) ↔ BadCount (nodes_of arena) (stored_in arena) w.stage
+    bad = bad_count (nodes_of arena) (stored_in arena) w.stage
+
+    decided : Bool → Result Step Refusal
+    decided broken = cond broken (Err BrokenCount) (Ok step)
+
+    grows : step.growth ≡ growth_at w.stage
+    grows = ap (λ (t : Step). t.growth) (done_step w (suc worker) (seen_by arena w) done) ∙ step_grows w (suc worker) (seen_by arena w)
+
+    comes : turn_on arena worker ≡ decided miscounting
+    comes =
+        none_accepts (worker_refusals arena worker) Err _ none
+        ∙ ap (counted arena) done
+        ∙ ap (λ g. decided (miscounts (nodes_of arena) (stored_in arena) g)) grows
+
+    go : (broken : Bool) → miscounting ≡ broken → decided broken ≡ Err BrokenCount → miscounting ≡ true
+    go true is e = is
+    go false is e = let z : ◌≡◌ {A = ℕ} 0 1 = cc in absurd (omega arith)
+
+-- what a turn that is done tells of its arena: the header is in order, there is such a worker, its own turn is done, and the count allows it
 pub record Accepted (arena : List ℕ) (worker : ℕ) (step : Step) : Type 0 where
   pub header : Header arena
   pub known : worker < workers_of arena
   pub done : turn_of (worker_at arena worker) (suc worker) (seen_by arena (worker_at arena worker)) ≡ Ok step
+  pub counts : miscounts (nodes_of arena) (stored_in arena) step.growth ≡ false
 
 pub turn_accepted : (arena : List ℕ) (worker : ℕ) {step : Step} → turn_on arena worker ≡ Ok step → Accepted arena worker step
 unfolding turn_on worker_refusals
 turn_accepted arena worker {step} e =
     let own = turn_of (worker_at arena worker) (suc worker) (seen_by arena (worker_at arena worker)) in
     let unknown : List Test = (leb (workers_of arena) worker, NoSuchWorker) ∷ [] in
-    let first = judged_done (header_refusals arena) (judged unknown Err own)
-    (sym (judged_append (header_refusals arena) unknown Err own) ∙ e) in
-    let second = judged_done unknown own first.1 in
+    let first = judged_done (header_refusals arena) (judged unknown Err (counted arena own))
+    (sym (judged_append (header_refusals arena) unknown Err (counted arena own)) ∙ e) in
+    let second = judged_done unknown (counted arena own) first.1 in
+    let third = counted_done arena own second.1 in
     record {
       header = header_holds arena (sym (none_accepts (header_refusals arena) refusing (accepted []) first.0));
       known = leb-false (workers_of arena) worker second.0.0;
-      done = second.1;
+      done = third.0;
+      counts = third.1;
     }
+
+-- its count fits a word, and one more does
+pub one_more_fits : (arena : List ℕ) (worker : ℕ) {step : Step} → turn_on arena worker ≡ Ok step → stored_of (with_effect arena step.effect) < 65535
+one_more_fits arena worker {step} e =
+    let header = (turn_accepted arena worker e).header in
+    omega (
+      arith,
+      effect_before arena step.effect stored_at (omega (arith, header.from)),
+      header.few_stored,
+      most_few (layout_of arena) (nodes_of arena),
+      header.good,
+    )
+
+-- after it the count is as its step says
+pub turn_counts : (arena : List ℕ) (worker : ℕ) {step : Step} → turn_on arena worker ≡ Ok step →
+    stored_in (turn_arena arena worker) ≡ count_after step.growth (stored_in arena)
+unfolding turn_arena
+turn_counts arena worker {step} e =
+    let header = (turn_accepted arena worker e).header in
+    let written = others_stay (with_changes arena step) worker step.worker in
+    rw e
+    ((λ i. cond (has_count (written 0 (inl (omega arith)) i)) (Some (written stored_at (inl (omega arith)) i)) None)
+    ∙ changes_count arena step header)
+
+-- and within its ends
+pub turn_fits : (arena : List ℕ) (worker : ℕ) {step : Step} → turn_on arena worker ≡ Ok step → CountFits arena step.growth
+turn_fits arena worker {step} e has =
+    let it = turn_accepted arena worker e in go step.growth (rw has at it.counts) (rw has at it.header.few_stored)
+  where
+    go : (g : Growth) → miscounts (nodes_of arena) (Some (stored_of arena)) g ≡ false → stored_of arena ≤ nodes_of arena - 2 →
+        grown g (stored_of arena) ≤ nodes_of arena - 2
+    go Stays may few = few
+    go OneMore may few = omega (arith, eqb-false (stored_of arena) (nodes_of arena - 2) may)
+    go OneLess may few = omega arith
 
 -- and it is the step of the worker's stage
 pub turn_steps : (arena : List ℕ) (worker : ℕ) {step : Step} → turn_on arena worker ≡ Ok step →
@@ -117,7 +232,9 @@ still_stays arena worker report still e =
         let same : report ≡ step.report = cc in
         let does = turn_steps arena worker is in
         let stays = still_step w (suc worker) (seen_by arena w) (ap (λ (t : Step). is_still t.report) (sym does) ∙ ap is_still (sym same) ∙ still) in
-        ap (λ (t : Step). turned_arena arena worker (Ok t)) (does ∙ stays) ∙ rewritten arena worker
+        ap (λ (t : Step). turned_arena arena worker (Ok t)) (does ∙ stays)
+        ∙ ap (λ (words : List ℕ). with_worker words worker w) (count_stays arena)
+        ∙ rewritten arena worker
 
 -- at 14 a free node is taken where there is one, and full is answered only where there is none
 pub takes_free : (arena : List ℕ) (worker : ℕ) {step : Step} → turn_on arena worker ≡ Ok step →

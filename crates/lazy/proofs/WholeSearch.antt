@@ -2,7 +2,7 @@
 use Prim.Native.Nat.{ℕ, zero, suc, ◌<◌, ◌≤◌}
 use mathlib.Core.Path.{◌≡◌, refl, ap, ◌∙◌}
 use mathlib.Core.List.{List, [], ◌∷◌, ◌++◌}
-use mathlib.Core.Bool.{Bool, false, ◌||◌, or_assoc, or_comm}
+use mathlib.Core.Bool.{Bool, ◌||◌, or_assoc, or_comm}
 use native.Mathlib.Omega.{arith}
 use lib.ListN.{length, length-replicate}
 use Rattle.lazy.specs.Free.{nodes_below, reached, lowest_from, lowest_free, not_free}

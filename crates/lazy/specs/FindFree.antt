@@ -1,9 +1,8 @@
 -- find_free on an arena (document 02, A4).
-use Rattle.std.specs.Prelude.{ℕ, List, [], ◌∷◌, Option, Some, None}
-use Rattle.worker.specs.Node.{no_node}
+use Rattle.std.specs.Prelude.{ℕ, List, [], ◌∷◌}
 use Rattle.words.specs.Layout.{layout_of, workers_of, nodes_of, node_width, node_part}
 use Rattle.words.specs.Records.{worker_at, next_at}
-use Rattle.words.specs.Replies.{Reply, replied}
+use Rattle.words.specs.Replies.{Reply, or_none, replied}
 use Rattle.words.specs.Header.{header_refusals}
 use Rattle.lazy.specs.Free.{roots_of, found_by}
 use Rattle.lazy.specs.declared.Found.{Found}
@@ -20,12 +19,8 @@ abbrev pub found_in : List ℕ → Found
 found_in arena = found_by (next_in arena) (nodes_of arena) (roots_in arena)
 
 -- in numbers: the lowest-numbered free node, or 65,535 for none, and how many next words were read
-abbrev pub free_number : Option ℕ → ℕ
-free_number (Some node) = node
-free_number None = no_node
-
 abbrev pub found_values : Found → List ℕ
-found_values it = free_number it.free ∷ it.reads ∷ []
+found_values it = or_none it.free ∷ it.reads ∷ []
 
 -- order: 1, 2
 unfoldable pub find_free_answer : List ℕ → Reply

@@ -1,16 +1,17 @@
 // The lazy list on an arena: a worker's turn, and the search for a free node.
 #![tactic(auto)]
 
-ghost use Rattle.std.specs.Prelude.{◌≡◌};
+ghost use Rattle.std.specs.Prelude.{◌<◌, ◌≡◌};
 ghost use Rattle.worker.specs.Report.{report_values};
+ghost use Rattle.words.specs.Layout.{nodes_of, stored_of, stored_in};
 ghost use Rattle.words.specs.Records.{node_at};
 ghost use Rattle.words.specs.Replies.{reply};
 ghost use Rattle.lazy.specs.FindFree.{found_values, find_free_answer};
 ghost use Rattle.lazy.specs.Sight.{looks_at_pred, looks_at_curr, looked_at, sight};
-ghost use Rattle.lazy.specs.Turn.{seen_by, turn_on, with_effect, turn_answer, turn_arena};
+ghost use Rattle.lazy.specs.Turn.{seen_by, is_stored, miscounts, counted, turn_on, with_effect, with_count, with_growth, with_changes, turn_answer, turn_arena};
 
-use words::{Arena, Nodes, layout, records};
-use worker::{Effect, Node, Refusal, Report, Seen, Step, Worker};
+use words::{Arena, Nodes, layout, put, records, word};
+use worker::{Effect, Growth, Node, Refusal, Report, Seen, Step, Worker};
 
 mod free;
 
@@ -27,13 +28,14 @@ pub fn turn(arena: &mut [u16], worker: u16) -> Result<Report, Refusal>
     ensures words { arena.new ≡ turn_arena arena.old worker }
 {
     let step = turned(arena, worker)?;
-    apply(arena, step.effect);
+    apply(arena, step);
     records::write_worker(arena, worker, step.worker);
     Ok(step.report)
 }
 
 // The lowest-numbered free node (document 01: the hunt), and how many next words the search for it read: one for each node that is not
 // free.
+#[tactic(auto, unfolding(crate::specs::FindFree::find_free_answer), using(words::proofs::Judged::still_refused, words::proofs::Judged::still_accepted))]
 pub fn find_free(arena: &[u16]) -> Result<Found, Refusal>
     ensures { reply found_values result ≡ find_free_answer arena.now }
 {
@@ -49,7 +51,39 @@ fn turned(arena: &[u16], worker: u16) -> Result<Step, Refusal>
         return Err(Refusal::NoSuchWorker);
     }
     let state = arena.worker(worker);
-    state.turn(worker + 1, see(arena, state))
+    counted(arena, state.turn(worker + 1, see(arena, state)))
+}
+
+// A turn is refused where its change of the count cannot be.
+#[tactic(auto, unfolding(crate::specs::Turn::counted))]
+fn counted(arena: Arena, turn: Result<Step, Refusal>) -> Result<Step, Refusal>
+    ensures { result ≡ counted arena.entry.words.now turn }
+{
+    let step = turn?;
+    if miscounts(arena, step.growth) {
+        return Err(Refusal::BrokenCount);
+    }
+    Ok(step)
+}
+
+// One label more than there is room for, or one less than none.
+fn miscounts(arena: Arena, growth: Growth) -> bool
+    ensures { result ≡ miscounts (nodes_of arena.entry.words.now) (stored_in arena.entry.words.now) growth }
+{
+    match growth {
+        Growth::Stays => false,
+        Growth::OneMore => is_stored(arena.nodes().count.saturating_sub(2), arena.stored()),
+        Growth::OneLess => is_stored(0, arena.stored()),
+    }
+}
+
+fn is_stored(number: u16, stored: Option<u16>) -> bool
+    ensures { result ≡ is_stored number stored }
+{
+    match stored {
+        None => false,
+        Some(stored) => stored == number,
+    }
 }
 
 // What the turn of a worker looks at. Only the stage that takes a free node searches for one.
@@ -94,9 +128,17 @@ fn look_at_curr(nodes: Nodes, state: Worker) -> Node
     }
 }
 
-// The one place where a turn writes to the nodes.
+// The one place where a turn writes to the nodes and to the count.
+fn apply(arena: &mut [u16], step: Step)
+    requires { stored_of (with_effect arena.old step.effect) < 65535 }
+    ensures { arena.new ≡ with_changes arena.old step }
+{
+    apply_effect(arena, step.effect);
+    apply_growth(arena, step.growth);
+}
+
 #[tactic(auto, unfolding(crate::specs::Turn::with_effect))]
-fn apply(arena: &mut [u16], effect: Effect)
+fn apply_effect(arena: &mut [u16], effect: Effect)
     ensures { arena.new ≡ with_effect arena.old effect }
 {
     match effect {
@@ -111,5 +153,28 @@ fn apply(arena: &mut [u16], effect: Effect)
         Effect::Fill(node, key, next, length) => {
             records::write_node(arena, node, Node::new(key, next, length))
         }
+    }
+}
+
+// Nothing is written where the count stays.
+#[tactic(auto, unfolding(crate::specs::Turn::with_growth), using(crate::proofs::ChangeLaws::count_stays))]
+fn apply_growth(arena: &mut [u16], growth: Growth)
+    requires { stored_of arena.old < 65535 }
+    ensures { arena.new ≡ with_growth arena.old growth }
+{
+    let stored = word(arena, layout::STORED_AT);
+    match growth {
+        Growth::Stays => {}
+        Growth::OneMore => write_count(arena, stored + 1),
+        Growth::OneLess => write_count(arena, stored.saturating_sub(1)),
+    }
+}
+
+#[tactic(auto, unfolding(crate::specs::Turn::with_count))]
+fn write_count(arena: &mut [u16], stored: u16)
+    ensures { arena.new ≡ with_count arena.old stored }
+{
+    if layout::has_count(word(arena, layout::LAYOUT_AT)) {
+        put(arena, layout::STORED_AT, stored);
     }
 }

@@ -1,5 +1,5 @@
 -- What the tests on counts say of the numbers, and how large offsets get.
-use Prim.Native.Nat.{ℕ, ◌+◌, ◌*◌, ◌≤◌}
+use Prim.Native.Nat.{ℕ, ◌+◌, ◌*◌, ◌-◌, ◌≤◌}
 use mathlib.Core.Path.{◌≡◌}
 use mathlib.Core.Bool.{Bool, true, false, cond, and-eq-true_iff}
 use native.Mathlib.Omega.{arith}
@@ -7,7 +7,7 @@ use native.Mathlib.Decide.{ℕ_discrete}
 use lib.Dec.{eqb}
 use Rattle.worker.specs.Worker.{within}
 use Rattle.worker.proofs.Laws.{range_bounds}
-use Rattle.words.specs.Layout.{good_counts, node_width, worker_from, total}
+use Rattle.words.specs.Layout.{good_counts, has_count, most_stored, node_width, worker_from, total}
 
 pub record Counts (layout workers nodes : ℕ) : Type 0 where
   pub some_layout : 1 ≤ layout
@@ -56,6 +56,14 @@ narrow layout = go (eqb layout 1) (eqb layout 2)
     go true two = omega arith
     go false true = omega arith
     go false false = omega arith
+
+-- a count is at most N less 2 in every layout
+pub most_few : (layout nodes : ℕ) → most_stored layout nodes ≤ nodes - 2
+most_few layout nodes = go (has_count layout)
+  where
+    go : (counts : Bool) → cond counts (nodes - 2) 0 ≤ nodes - 2
+    go true = omega arith
+    go false = omega arith
 
 -- every offset of an arena fits a word
 pub total_fits : (layout workers nodes : ℕ) → Counts layout workers nodes → total layout workers nodes ≤ 5192

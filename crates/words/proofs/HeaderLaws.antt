@@ -8,9 +8,9 @@ use native.Mathlib.Omega.{arith}
 use native.Mathlib.Nat.{zero-add, add-zero, add-suc, suc-add}
 use lib.ListN.{length, take, drop, length-drop}
 use lib.Seq.{get_or-take, length-take-le, ext_get_or}
-use lib.Dec.{eqb}
-use borrow.Author.Tests.{eqb-true, eq-eqb, ltb-false, not-false}
-use Rattle.words.specs.Layout.{word, header_width, nodes_from, total, node_width, node_part, good_counts, header_words, layout_of, workers_of, nodes_of, nodes_from_of, total_of}
+use lib.Dec.{leb, eqb}
+use borrow.Author.Tests.{eqb-true, eq-eqb, leb-true, le-leb, ltb-false, not-false}
+use Rattle.words.specs.Layout.{word, header_width, nodes_from, total, node_width, node_part, good_counts, most_stored, header_words, layout_of, workers_of, nodes_of, nodes_from_of, total_of, stored_of}
 use Rattle.words.specs.Records.{Spans}
 use Rattle.words.specs.Replies.{accepted, replied}
 use Rattle.words.specs.Header.{agrees, is_header, HeaderOfSome, header_refusals}
@@ -41,10 +41,15 @@ pub record Header (arena : List ℕ) : Type 0 where
   pub good : Counts (layout_of arena) (workers_of arena) (nodes_of arena)
   pub from : nodes_from_of arena ≡ nodes_from (workers_of arena)
   pub end : total_of arena ≡ total (layout_of arena) (workers_of arena) (nodes_of arena)
+  pub few_stored : stored_of arena ≤ most_stored (layout_of arena) (nodes_of arena)
 
 or_false : (a b : Bool) → (a || b) ≡ false → (a ≡ false) × (b ≡ false)
 or_false true b e = (e, absurd (true≢false e))
 or_false false b e = (refl, e)
+
+-- the header that the numbers of an arena give
+abbrev own_header : List ℕ → List ℕ
+own_header arena = header_words (layout_of arena) (workers_of arena) (nodes_of arena) (stored_of arena)
 
 pub header_holds : (arena : List ℕ) {values : List ℕ} → accepted values ≡ replied (header_refusals arena) [] → Header arena
 unfolding header_refusals is_header header_words
@@ -52,12 +57,14 @@ header_holds arena e =
     let none = none_holds (header_refusals arena) [] e in
     let short = or_false _ _ none.0 in
     let all = (and-eq-true_iff _ _).0 (not-false _ none.1.0) in
+    let numbers = (and-eq-true_iff _ _).0 all.0 in
     record {
       long = ltb-false _ _ short.0;
       whole = ltb-false _ _ short.1;
-      good = counts (layout_of arena) (workers_of arena) (nodes_of arena) all.0;
-      from = agrees_at arena (header_words (layout_of arena) (workers_of arena) (nodes_of arena)) 0 4 all.1 (omega arith);
-      end = agrees_at arena (header_words (layout_of arena) (workers_of arena) (nodes_of arena)) 0 5 all.1 (omega arith);
+      good = counts (layout_of arena) (workers_of arena) (nodes_of arena) numbers.0;
+      from = agrees_at arena (own_header arena) 0 4 all.1 (omega arith);
+      end = agrees_at arena (own_header arena) 0 5 all.1 (omega arith);
+      few_stored = leb-true _ _ numbers.1;
     }
 
 -- the node records have as many words as the nodes need
@@ -80,26 +87,31 @@ unfolding is_header header_words
 header_of_some arena h = (forth, back)
   where
     own : List ℕ
-    own = header_words (layout_of arena) (workers_of arena) (nodes_of arena)
+    own = own_header arena
 
     forth : is_header arena ≡ true → HeaderOfSome arena
     forth e =
         let all = (and-eq-true_iff _ _).0 e in
+        let numbers = (and-eq-true_iff _ _).0 all.0 in
         let each : (k : ℕ) → k < 8 → word (take header_width arena) k ≡ word own k
         = λ k l. get_or-take header_width arena k 0 l ∙ rw zero-add at (agrees_at arena own 0 k all.1 l) in
         let long : length (take header_width arena) ≡ 8 = length-take-le header_width arena h in
         let same : take header_width arena ≡ own = ext_get_or 0 (take header_width arena) own long (λ k l. each k (omega arith)) in
-        (layout_of arena, workers_of arena, nodes_of arena, all.0, same)
+        (layout_of arena, workers_of arena, nodes_of arena, stored_of arena, numbers.0, leb-true _ _ numbers.1, same)
 
     back : HeaderOfSome arena → is_header arena ≡ true
     back p =
-        let each : (k : ℕ) → k < 8 → word arena k ≡ word (header_words p.0 p.1 p.2) k
-        = λ k l. sym (get_or-take header_width arena k 0 l) ∙ ap (λ (words : List ℕ). word words k) p.4 in
+        let each : (k : ℕ) → k < 8 → word arena k ≡ word (header_words p.0 p.1 p.2 p.3) k
+        = λ k l. sym (get_or-take header_width arena k 0 l) ∙ ap (λ (words : List ℕ). word words k) p.6 in
         let layout : layout_of arena ≡ p.0 = each 0 (omega arith) in
         let workers : workers_of arena ≡ p.1 = each 1 (omega arith) in
         let nodes : nodes_of arena ≡ p.2 = each 2 (omega arith) in
-        let same : header_words p.0 p.1 p.2 ≡ own = λ i. header_words (sym layout i) (sym workers i) (sym nodes i) in
+        let stored : stored_of arena ≡ p.3 = each 6 (omega arith) in
+        let same : header_words p.0 p.1 p.2 p.3 ≡ own = λ i. header_words (sym layout i) (sym workers i) (sym nodes i) (sym stored i) in
         (and-eq-true_iff _ _).1 (
-          (λ i. good_counts (layout i) (workers i) (nodes i)) ∙ p.3,
+          (and-eq-true_iff _ _).1 (
+            (λ i. good_counts (layout i) (workers i) (nodes i)) ∙ p.4,
+            (λ i. leb (stored i) (most_stored (layout i) (nodes i))) ∙ le-leb _ _ p.5,
+          ),
           agrees_all arena own 0 (λ k l. rw zero-add (each k l ∙ ap (λ (words : List ℕ). word words k) same)),
         )

@@ -5,10 +5,11 @@ use mathlib.Core.List.{List, [], ◌∷◌, ◌++◌}
 use mathlib.Core.Bool.{Bool, true, false, cond}
 use native.Mathlib.Omega.{arith}
 use lib.ListN.{get_or}
+use lib.Dec.{eqb}
 use Rattle.std.specs.Prelude.{Result, Ok, Err}
 use Rattle.worker.specs.Refusals.{Test, refusal_number, judged}
 use Rattle.worker.specs.declared.refusal.Refusal.{Refusal}
-use Rattle.worker.specs.declared.refusal.Refusal.TheVariants.{ShortArena, OddHeader, NoSuchWorker, Busy, BadCall, BrokenRecord, BrokenChain, NoRoom, BadSchedule, BadCounts, LengthsMissing}
+use Rattle.worker.specs.declared.refusal.Refusal.TheVariants.{ShortArena, OddHeader, NoSuchWorker, Busy, BadCall, BrokenRecord, BrokenChain, NoRoom, BadSchedule, BadCounts, LengthsMissing, BrokenCount}
 use Rattle.worker.proofs.RefusalLaws.{NoneHolds, judged_append, judged_passed}
 use Rattle.words.specs.Replies.{Reply, refused, accepted, refusing, reply, replied}
 
@@ -27,7 +28,7 @@ numbered number =
     ∷ BadSchedule
     ∷ BadCounts
     ∷ [])
-    (number - 1) LengthsMissing
+    (number - 1) (cond (eqb number 13) LengthsMissing BrokenCount)
 
 numbered_back : (refusal : Refusal) → numbered (refusal_number refusal) ≡ refusal
 unfolding numbered
@@ -42,6 +43,7 @@ numbered_back NoRoom = refl
 numbered_back BadSchedule = refl
 numbered_back BadCounts = refl
 numbered_back LengthsMissing = refl
+numbered_back BrokenCount = refl
 
 settled : {A : Type 0} → Reply → (Refusal → A) → A → A
 settled (refused number) refuse accept = refuse (numbered number)
@@ -70,6 +72,15 @@ module _ {A : Type 0} (rs : List Test) (values : List ℕ) (refuse : Refusal →
   pub judged_accepted : {given : List ℕ} → accepted given ≡ replied rs values → judged rs refuse accept ≡ accept
   unfolding settled
   judged_accepted e = judged_by rs values refuse accept ∙ ap (λ (r : Reply). settled r refuse accept) (sym e)
+
+-- what is refused is refused whatever is asked for, and what is accepted gives it
+pub still_refused : (rs : List Test) (values asked : List ℕ) (refusal : Refusal) → refusing refusal ≡ replied rs values →
+    refusing refusal ≡ replied rs asked
+still_refused rs values asked refusal e = sym (judged_refused rs values refusing (accepted asked) e)
+
+pub still_accepted : (rs : List Test) (values asked : List ℕ) {given : List ℕ} → accepted given ≡ replied rs values →
+    accepted asked ≡ replied rs asked
+still_accepted rs values asked e = sym (judged_accepted rs values refusing (accepted asked) e)
 
 -- where a list refuses nothing, no test of it holds, and what is given are the values
 passed : (rs : List Test) (values : List ℕ) {given : List ℕ} → accepted given ≡ replied rs values →

@@ -1,5 +1,5 @@
 -- The word layout of an arena (document 01: board): a header, then worker records, then node records.
-use Rattle.std.specs.Prelude.{ℕ, ◌+◌, ◌*◌, ◌-◌, List, [], ◌∷◌, Bool, cond, ◌&&◌, get_or, take, drop, ltb, eqb}
+use Rattle.std.specs.Prelude.{ℕ, ◌+◌, ◌*◌, ◌-◌, List, [], ◌∷◌, Bool, cond, ◌&&◌, get_or, take, drop, ltb, eqb, Option, Some, None}
 use Rattle.worker.specs.Worker.{within}
 
 -- the word at a place, counted from 0; past the end there are zeros
@@ -13,7 +13,7 @@ header_width = 8
 abbrev pub worker_width : ℕ
 worker_width = 8
 
--- layouts: 1, and 2, in which a node has a length (document 02, A2)
+-- layouts: 1, and 2, in which a node has a length (document 02, A2) and the header a count (A6)
 abbrev pub layout1 : ℕ
 layout1 = 1
 
@@ -88,10 +88,22 @@ total layout workers nodes = nodes_from workers + node_width layout * nodes
 abbrev pub good_counts : ℕ → ℕ → ℕ → Bool
 good_counts layout workers nodes = within layout1 layout2 layout && within 1 8 workers && within 3 1024 nodes
 
--- the header: layout, W, N, offset of the worker records (8), offset of the node records, total, 0, 0
-unfoldable pub header_words : ℕ → ℕ → ℕ → List ℕ
-header_words layout workers nodes =
-    layout ∷ workers ∷ nodes ∷ header_width ∷ nodes_from workers ∷ total layout workers nodes ∷ 0 ∷ 0 ∷ []
+-- headers of a layout have a count, the size of the set (document 02, A6)
+abbrev pub has_count : ℕ → Bool
+has_count layout = eqb layout layout2
+
+-- it is at most N less 2; where there is none, its word is 0
+abbrev pub most_stored : ℕ → ℕ → ℕ
+most_stored layout nodes = cond (has_count layout) (nodes - 2) 0
+
+-- the header: layout, W, N, offset of the worker records (8), offset of the node records, total, count, 0
+unfoldable pub header_words : ℕ → ℕ → ℕ → ℕ → List ℕ
+header_words layout workers nodes stored =
+    layout ∷ workers ∷ nodes ∷ header_width ∷ nodes_from workers ∷ total layout workers nodes ∷ stored ∷ 0 ∷ []
+
+-- where the count stands
+abbrev pub stored_at : ℕ
+stored_at = 6
 
 -- the header words of an arena as they stand
 abbrev pub layout_of : List ℕ → ℕ
@@ -108,6 +120,13 @@ nodes_from_of arena = word arena 4
 
 abbrev pub total_of : List ℕ → ℕ
 total_of arena = word arena 5
+
+abbrev pub stored_of : List ℕ → ℕ
+stored_of arena = word arena stored_at
+
+-- the count of an arena, if there is one
+abbrev pub stored_in : List ℕ → Option ℕ
+stored_in arena = cond (has_count (layout_of arena)) (Some (stored_of arena)) None
 
 -- the node records: the part from the node offset to the total
 unfoldable pub node_part : List ℕ → List ℕ

@@ -1,5 +1,6 @@
 -- What is replied and written, by the refusals in document 01's order.
-use Rattle.std.specs.Prelude.{ℕ, List, [], Result, Ok, Err}
+use Rattle.std.specs.Prelude.{ℕ, List, [], Option, Some, None, Result, Ok, Err}
+use Rattle.worker.specs.Node.{no_node}
 use Rattle.worker.specs.Refusals.{Test, refusal_number, judged}
 use Rattle.worker.specs.declared.refusal.Refusal.{Refusal}
 
@@ -19,6 +20,11 @@ reply values (Err refusal) = refusing refusal
 -- of a call that only may be refused nothing is asked
 abbrev pub no_values : {A : Type 0} → A → List ℕ
 no_values given = []
+
+-- a number, or 65,535 where there is none
+abbrev pub or_none : Option ℕ → ℕ
+or_none (Some number) = number
+or_none None = no_node
 
 -- what is replied: the number alone, or the values
 abbrev pub replied : List Test → List ℕ → Reply

@@ -1,6 +1,6 @@
 // An arena behind the header test, which every entry point but init begins with.
 ghost use Rattle.std.specs.Prelude.{◌≡◌, ◌≤◌, [], length, IfOk};
-ghost use Rattle.words.specs.Layout.{header_width, workers_of, nodes_of, layout_of, node_width, node_part};
+ghost use Rattle.words.specs.Layout.{header_width, workers_of, nodes_of, layout_of, stored_in, node_width, node_part};
 ghost use Rattle.words.specs.Records.{Spans, worker_at};
 ghost use Rattle.words.specs.Replies.{accepted, no_values, reply, replied};
 ghost use Rattle.words.specs.Header.{agrees, is_header, header_refusals};
@@ -39,6 +39,17 @@ impl<'a> Arena<'a> {
         word(self.words, layout::WORKERS_AT)
     }
 
+    // How many labels the header counts, if it does.
+    pub fn stored(self) -> Option<u16>
+        ensures { result ≡ stored_in self.entry.words.now }
+    {
+        if layout::has_count(word(self.words, layout::LAYOUT_AT)) {
+            Some(word(self.words, layout::STORED_AT))
+        } else {
+            None
+        }
+    }
+
     pub fn worker(self, number: u16) -> Worker
         ensures { result ≡ worker_at self.entry.words.now number }
     {
@@ -61,7 +72,7 @@ impl<'a> Arena<'a> {
     }
 }
 
-// The first words are the header that their own counts give.
+// The first words are the header that their own numbers give.
 #[tactic(auto, unfolding(crate::specs::Header::is_header))]
 fn is_header(arena: &[u16]) -> bool
     ensures { result ≡ is_header arena.now }
@@ -69,8 +80,9 @@ fn is_header(arena: &[u16]) -> bool
     let layout = word(arena, layout::LAYOUT_AT);
     let workers = word(arena, layout::WORKERS_AT);
     let nodes = word(arena, layout::NODES_AT);
+    let stored = word(arena, layout::STORED_AT);
     match Counts::new(layout, workers, nodes) {
-        Some(counts) => agree(arena, &counts.header()),
+        Some(counts) => (stored <= counts.most_stored()) & agree(arena, &counts.header(stored)),
         None => false,
     }
 }

@@ -1,7 +1,7 @@
 // The word layout: where the header's words and the records stand.
 ghost use Rattle.std.specs.Prelude.{◌≡◌, ◌*◌, true, is_some, IfSome};
 ghost use Rattle.worker.specs.Worker.{within};
-ghost use Rattle.words.specs.Layout.{layout1, layout2, node_width, has_length, worker_from, slot, total, good_counts, header_words};
+ghost use Rattle.words.specs.Layout.{layout1, layout2, node_width, has_length, has_count, worker_from, slot, total, good_counts, most_stored, header_words};
 
 // Header words.
 pub const LAYOUT_AT: usize = 0;
@@ -14,12 +14,14 @@ pub const NODES_FROM_AT: usize = 4;
 
 pub const TOTAL_AT: usize = 5;
 
+pub const STORED_AT: usize = 6;
+
 // Words of the header and of a worker record.
 pub const HEADER_WIDTH: usize = 8;
 
 pub const WORKER_WIDTH: usize = 8;
 
-// The layouts; in layout 2 a node has a length. Numbers and no enum, as the C interface asks for any.
+// The layouts; in layout 2 a node has a length and the header a count. Numbers and no enum, as the C interface asks for any.
 pub const LAYOUT_1: u16 = 1;
 
 pub const LAYOUT_2: u16 = 2;
@@ -72,6 +74,13 @@ pub fn has_length(width: u16) -> bool
     ensures { result ≡ has_length width }
 {
     NODE_LENGTH < width
+}
+
+// Whether headers of a layout have a count, the size of the set.
+pub fn has_count(layout: u16) -> bool
+    ensures { result ≡ has_count layout }
+{
+    layout == LAYOUT_2
 }
 
 // Where a worker's record stands.
@@ -135,10 +144,21 @@ impl Counts {
         total(self.layout, self.workers, self.nodes)
     }
 
-    // The header of an arena.
+    // The largest count of a header.
+    pub fn most_stored(self) -> u16
+        ensures { result ≡ most_stored self.layout self.nodes }
+    {
+        if has_count(self.layout) {
+            self.nodes - 2
+        } else {
+            0
+        }
+    }
+
+    // The header of an arena with so many labels.
     #[tactic(auto, unfolding(crate::specs::Layout::header_words))]
-    pub fn header(self) -> [u16; 8]
-        ensures { result ≡ header_words self.layout self.workers self.nodes }
+    pub fn header(self, stored: u16) -> [u16; 8]
+        ensures { result ≡ header_words self.layout self.workers self.nodes stored }
     {
         let nodes_from = worker_from(self.workers);
         [
@@ -148,7 +168,7 @@ impl Counts {
             HEADER_WIDTH as u16,
             nodes_from as u16,
             self.total() as u16,
-            0,
+            stored,
             0,
         ]
     }

@@ -6,3 +6,4 @@ pub mod Tables
 pub mod TurnLaws
 pub mod EffectLaws
 pub mod StillLaws
+pub mod CountLaws

@@ -1,7 +1,7 @@
 -- Refusals in the numbers and words of documents 01 and 02, and the first of them in the given order.
 use Rattle.std.specs.Prelude.{ℕ, List, [], ◌∷◌, Bool, cond, codes}
 use Rattle.worker.specs.declared.refusal.Refusal.{Refusal}
-use Rattle.worker.specs.declared.refusal.Refusal.TheVariants.{ShortArena, OddHeader, NoSuchWorker, Busy, BadCall, BrokenRecord, BrokenChain, NoRoom, BadSchedule, BadCounts, LengthsMissing}
+use Rattle.worker.specs.declared.refusal.Refusal.TheVariants.{ShortArena, OddHeader, NoSuchWorker, Busy, BadCall, BrokenRecord, BrokenChain, NoRoom, BadSchedule, BadCounts, LengthsMissing, BrokenCount}
 
 abbrev pub refusal_number : Refusal → ℕ
 refusal_number ShortArena = 1
@@ -15,6 +15,7 @@ refusal_number NoRoom = 8
 refusal_number BadSchedule = 9
 refusal_number BadCounts = 10
 refusal_number LengthsMissing = 13
+refusal_number BrokenCount = 14
 
 abbrev pub refusal_word : Refusal → List ℕ
 refusal_word ShortArena = codes "short board"
@@ -28,6 +29,7 @@ refusal_word NoRoom = codes "no room"
 refusal_word BadSchedule = codes "bad schedule"
 refusal_word BadCounts = codes "bad counts"
 refusal_word LengthsMissing = codes "lengths missing"
+refusal_word BrokenCount = codes "broken count"
 
 -- a test, and the refusal where it holds
 abbrev pub Test : Type 0

@@ -1,5 +1,5 @@
 -- The stage table (document 01: Stages): what a turn does at each stage.
-use Rattle.std.specs.Prelude.{ℕ, ◌-◌, List, [], ◌∷◌, Bool, cond, get_or, ltb, eqb, Option, Some, None}
+use Rattle.std.specs.Prelude.{ℕ, suc, ◌-◌, List, [], ◌∷◌, Bool, cond, get_or, ltb, eqb, Option, Some, None}
 use Rattle.worker.specs.Node.{head}
 use Rattle.worker.specs.Worker.{add, idle_worker}
 use Rattle.worker.specs.Report.{answer_number, numbered_answer}
@@ -11,6 +11,8 @@ use Rattle.worker.specs.declared.report.Report.{Report}
 use Rattle.worker.specs.declared.report.Report.TheVariants.{Idle, Moved, Waits, Finished}
 use Rattle.worker.specs.declared.report.Effect.{Effect}
 use Rattle.worker.specs.declared.report.Effect.TheVariants.{Nothing, SetOwner, SetNext, SetMark, Fill}
+use Rattle.worker.specs.declared.report.Growth.{Growth}
+use Rattle.worker.specs.declared.report.Growth.TheVariants.{Stays, OneMore, OneLess}
 
 -- a record with other stage, pred, curr, spare and answer: no turn but the last changes the other words
 abbrev pub changed : Worker → ℕ → ℕ → ℕ → ℕ → ℕ → Worker
@@ -43,11 +45,21 @@ with_answer w answer = changed w w.stage w.pred w.curr w.spare answer
 
 -- nothing is written but the record, which may stay
 abbrev pub reports : Worker → Report → Step
-reports w report = record { worker = w; report = report; effect = Nothing }
+reports w report = record { worker = w; report = report; effect = Nothing; growth = Stays }
 
 -- to a stage, with an effect on the nodes
 abbrev pub goes : Worker → ℕ → Effect → Step
-goes w stage effect = record { worker = with_stage w stage; report = Moved stage; effect = effect }
+goes w stage effect = record { worker = with_stage w stage; report = Moved stage; effect = effect; growth = Stays }
+
+-- a count as a step changes it: one more label is stored, or one less (document 02, A6)
+abbrev pub grown : Growth → ℕ → ℕ
+grown Stays stored = stored
+grown OneMore stored = suc stored
+grown OneLess stored = stored - 1
+
+-- a step that does so
+abbrev pub growing : Step → Growth → Step
+growing step growth = record { worker = step.worker; report = step.report; effect = step.effect; growth = growth }
 
 -- to a stage
 abbrev pub to : Worker → ℕ → Step
@@ -113,10 +125,10 @@ module _ (w : Worker) (owner : ℕ) (seen : Seen) where
       ∷ decides w (eqb seen.curr.key w.key)
       -- 14: by the lowest-numbered free node
       ∷ takes w seen.free
-      -- 15: next of pred := spare; answer yes; to 19
-      ∷ goes (with_answer w (answer_number Yes)) 19 (SetNext w.pred w.spare)
-      -- 16: mark of curr := 1; answer yes; to 17
-      ∷ goes (with_answer w (answer_number Yes)) 17 (SetMark w.curr)
+      -- 15: next of pred := spare; answer yes; one more is stored; to 19
+      ∷ growing (goes (with_answer w (answer_number Yes)) 19 (SetNext w.pred w.spare)) OneMore
+      -- 16: mark of curr := 1; answer yes; one less is stored; to 17
+      ∷ growing (goes (with_answer w (answer_number Yes)) 17 (SetMark w.curr)) OneLess
       -- 17: spare := next of curr; to 18
       ∷ to (with_spare w seen.curr.next) 18
       -- 18: next of pred := spare; to 19
@@ -140,3 +152,7 @@ module _ (w : Worker) (owner : ℕ) (seen : Seen) where
   -- the turn at the record's stage (one above 25 is refused)
   unfoldable pub step_of : Step
   step_of = get_or stage_table w.stage (reports w Idle)
+
+-- document 02's words on the count: stage 15 adds one, stage 16 takes one away, no other stage changes it (`CountLaws.step_grows`)
+abbrev pub growth_at : ℕ → Growth
+growth_at stage = cond (eqb stage 15) OneMore (cond (eqb stage 16) OneLess Stays)

@@ -11,7 +11,7 @@ mod stages;
 mod turn;
 
 pub use refusal::Refusal;
-pub use report::{Answer, Effect, Report, Seen, Step};
+pub use report::{Answer, Effect, Growth, Report, Seen, Step};
 
 // Document 01's node record, and document 02's length. Numbers and no options, as its words are lent memory's and may be anything.
 #[derive(Clone, Copy, Debug, PartialEq, Eq)]

@@ -18,6 +18,7 @@ pub enum Refusal {
     BadSchedule = 9,
     BadCounts = 10,
     LengthsMissing = 13,
+    BrokenCount = 14,
 }
 
 impl From<Refusal> for u16 {
@@ -44,6 +45,7 @@ impl fmt::Display for Refusal {
             Refusal::BadSchedule => "bad schedule",
             Refusal::BadCounts => "bad counts",
             Refusal::LengthsMissing => "lengths missing",
+            Refusal::BrokenCount => "broken count",
         })
     }
 }

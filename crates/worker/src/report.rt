@@ -45,12 +45,21 @@ pub enum Effect {
     Fill(u16, u16, u16, u16),
 }
 
+// And what it does to the number of stored labels (document 02, A6).
+#[derive(Clone, Copy, Debug, PartialEq, Eq)]
+pub enum Growth {
+    Stays,
+    OneMore,
+    OneLess,
+}
+
 // An accepted turn.
 #[derive(Clone, Copy, Debug, PartialEq, Eq)]
 pub struct Step {
     pub worker: Worker,
     pub report: Report,
     pub effect: Effect,
+    pub growth: Growth,
 }
 
 // An answer in a worker's record.

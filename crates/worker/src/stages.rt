@@ -2,9 +2,9 @@
 // match on the stage number is its form.
 ghost use Rattle.std.specs.Prelude.{◌≡◌, cond};
 ghost use Rattle.worker.specs.Report.{answer_number};
-ghost use Rattle.worker.specs.Stages.{with_stage, with_pred, with_curr, with_spare, with_answer, reports, goes, to, locks, unlocks, denies, decides, takes, compares, step_of};
+ghost use Rattle.worker.specs.Stages.{with_stage, with_pred, with_curr, with_spare, with_answer, reports, goes, growing, to, locks, unlocks, denies, decides, takes, compares, step_of};
 
-use crate::report::{Answer, Effect, Report, Seen, Step};
+use crate::report::{Answer, Effect, Growth, Report, Seen, Step};
 use crate::{Node, Worker};
 
 impl Worker {
@@ -33,10 +33,12 @@ impl Worker {
             14 => self.takes(free),
             15 => self
                 .with_answer(Answer::Yes)
-                .goes(19, Effect::SetNext(self.pred, self.spare)),
+                .goes(19, Effect::SetNext(self.pred, self.spare))
+                .growing(Growth::OneMore),
             16 => self
                 .with_answer(Answer::Yes)
-                .goes(17, Effect::SetMark(self.curr)),
+                .goes(17, Effect::SetMark(self.curr))
+                .growing(Growth::OneLess),
             17 => self.with_spare(seen.curr.next).to(18),
             18 => self.goes(19, Effect::SetNext(self.pred, self.spare)),
             19 => self.unlocks(self.pred, 20),
@@ -96,6 +98,7 @@ impl Worker {
             worker: self,
             report,
             effect: Effect::Nothing,
+            growth: Growth::Stays,
         }
     }
 
@@ -107,6 +110,7 @@ impl Worker {
             worker: next,
             report: Report::Moved(stage),
             effect,
+            growth: Growth::Stays,
         }
     }
 
@@ -175,6 +179,14 @@ impl Worker {
         } else {
             self.denies(21)
         }
+    }
+}
+
+impl Step {
+    fn growing(self, growth: Growth) -> Step
+        ensures { result ≡ growing self growth }
+    {
+        Step { growth, ..self }
     }
 }
 

@@ -36,6 +36,7 @@ returns c =
       ← passed.words,
       ← c.worker_count.ensures,
       lt-leb _ _ c.if-worker_count-worker.false,
+      c.counted.ensures,
       c.turn.ensures,
       c.see.ensures,
       sight_enough,
