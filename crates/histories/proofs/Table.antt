@@ -10,7 +10,7 @@ use Rattle.arena.specs.Init.{fresh_workers, fresh_nodes, fresh_words}
 use Rattle.arena.specs.Start.{call_refusals, start_refusals, start_arena}
 use Rattle.arena.specs.Sets.{member, walk, chain, chain_nodes, chain_labels, set_of}
 use Rattle.lazy.specs.Free.{roots_of, leads, reached, lowest_from, lowest_free}
-use Rattle.lazy.specs.Turn.{seen_of, seen_by, worker_refusals, turn_on, with_effect, turn_arena}
+use Rattle.lazy.specs.Turn.{seen_of, seen_by, worker_refusals, counted, turn_on, with_effect, with_count, with_growth, turn_arena}
 use Rattle.linear.specs.Times.{times_from, first, latest}
 use Rattle.linear.specs.Entries.{event_of, after}
 use Rattle.linear.specs.History.{is_decision, entry_at, arena_at, event_at, finishes_at, decides_at, absent_at, finish_of, decision_of, answer_of, point_of, call_at, calls, starts_call_of, call_number, wait_at, waits, totals}
@@ -19,7 +19,7 @@ use Rattle.linear.specs.Sequential.{including, excluding, response_to, labels_af
 use Rattle.histories.specs.Histories.{found, stated, for_two, for_one, histories}
 
 pub histories_hold : map found histories ≡ map stated histories
-unfolding node_width header_words node_part node_from worker_at with_worker with_node node_at is_header header_refusals call_refusals start_refusals start_arena walk chain step_of belongs kept placed astray busy_refusals turn_refusals turn_of roots_of leads reached lowest_from lowest_free seen_of seen_by worker_refusals turn_on with_effect turn_arena times_from first latest member chain_nodes chain_labels set_of event_of after is_decision entry_at arena_at event_at finishes_at decides_at absent_at finish_of decision_of answer_of point_of call_at calls starts_call_of call_number wait_at waits totals goes_before inserted sorted in_order including excluding response_to labels_after
+unfolding node_width header_words node_part node_from worker_at with_worker with_node node_at is_header header_refusals call_refusals start_refusals start_arena walk chain step_of belongs kept placed astray busy_refusals turn_refusals turn_of roots_of leads reached lowest_from lowest_free seen_of seen_by worker_refusals counted turn_on with_effect with_count with_growth turn_arena times_from first latest member chain_nodes chain_labels set_of event_of after is_decision entry_at arena_at event_at finishes_at decides_at absent_at finish_of decision_of answer_of point_of call_at calls starts_call_of call_number wait_at waits totals goes_before inserted sorted in_order including excluding response_to labels_after
 histories_hold = refl
 
 -- the arenas are fresh

@@ -1,8 +1,9 @@
 -- One table of histories: a row has an arena and entries, and says what calls and waits they come to, the totals, and the set at the end.
-use Rattle.std.specs.Prelude.{ℕ, List, [], ◌∷◌, ◌++◌, map, length, replicate}
+use Rattle.std.specs.Prelude.{ℕ, List, [], ◌∷◌, ◌++◌, map, length, replicate, Option, Some, None}
 use Rattle.worker.specs.Worker.{add, remove, contains}
 use Rattle.worker.specs.Report.{answer_number}
 use Rattle.worker.specs.declared.report.Answer.TheVariants.{Yes, No, Full}
+use Rattle.words.specs.Layout.{stored_in}
 use Rattle.words.specs.declared.entry.Entry.{Entry}
 use Rattle.arena.specs.declared.chain.Label.{Label}
 use Rattle.arena.specs.Sets.{set_of}
@@ -43,8 +44,8 @@ total entries refused waits calls = record { entries = entries; refused = refuse
 abbrev pub label : ℕ → ℕ → Label
 label key length = record { key = key; length = length }
 
--- what is asked of a list of entries: its calls, its waits, its totals, the starts of its calls in order, the set at the end, on the arena and by
--- the sequential set
+-- what is asked of a list of entries: its calls, its waits, its totals, the starts of its calls in order; and at the end the set, on the arena and by
+-- the sequential set, and the count of stored labels, if there is one
 pub record Told : Type 0 where
   pub calls : List Call
   pub waits : List Wait
@@ -52,6 +53,7 @@ pub record Told : Type 0 where
   pub order : List ℕ
   pub labels : List Label
   pub sequential : List Label
+  pub stored : Option ℕ
 
 pub data History : Type 0 where
   row : List ℕ → List Entry → Told → History
@@ -65,6 +67,7 @@ found (row initial entries told) =
       order = map (λ (call : Call). call.start) (in_order initial entries);
       labels = set_of (arena_at initial entries (length entries));
       sequential = labels_after [] (in_order initial entries);
+      stored = stored_in (arena_at initial entries (length entries));
     }
 
 abbrev pub stated : History → Told
@@ -161,6 +164,7 @@ histories =
       order = 1 ∷ 21 ∷ 16 ∷ 37 ∷ 53 ∷ [];
       labels = label 7 1 ∷ [];
       sequential = label 7 1 ∷ [];
+      stored = Some 1;
     })
     ∷ row for_two overtaken
     (record {
@@ -170,6 +174,7 @@ histories =
       order = 1 ∷ 5 ∷ [];
       labels = label 7 4 ∷ [];
       sequential = label 7 4 ∷ [];
+      stored = Some 1;
     })
     ∷ row for_two relabelled
     (record {
@@ -183,6 +188,7 @@ histories =
       order = 1 ∷ 19 ∷ 16 ∷ [];
       labels = label 5 2 ∷ [];
       sequential = label 5 2 ∷ [];
+      stored = Some 1;
     })
     ∷ row for_one crowded
     (record {
@@ -192,6 +198,7 @@ histories =
       order = 1 ∷ 17 ∷ [];
       labels = label 5 0 ∷ [];
       sequential = label 5 0 ∷ [];
+      stored = None;
     })
     ∷ row for_two mixed
     (record {
@@ -201,5 +208,6 @@ histories =
       order = 1 ∷ [];
       labels = label 5 9 ∷ [];
       sequential = label 5 9 ∷ [];
+      stored = Some 1;
     })
     ∷ []

@@ -8,7 +8,7 @@ use lib.Dec.{eqb, ltb}
 use borrow.Author.Tests.{eqb-true, eqb-false, ltb-true, ltb-false, eq-eqb}
 use Rattle.worker.specs.Worker.{add}
 use Rattle.worker.specs.Report.{answer_number}
-use Rattle.worker.specs.Stages.{goes, to, denies, takes, with_curr, with_spare, with_stage, with_answer}
+use Rattle.worker.specs.Stages.{goes, growing, to, denies, takes, with_curr, with_spare, with_stage, with_answer}
 use Rattle.worker.specs.Turn.{belongs}
 use Rattle.worker.specs.declared.Worker.{Worker}
 use Rattle.worker.specs.declared.report.Answer.TheVariants.{Yes, No}
@@ -16,6 +16,7 @@ use Rattle.worker.specs.declared.report.Report.TheVariants.{Moved}
 use Rattle.std.specs.Prelude.{Option, Some, None}
 use Rattle.worker.specs.declared.report.Step.{Step}
 use Rattle.worker.specs.declared.report.Effect.TheVariants.{SetNext, SetMark, Fill}
+use Rattle.worker.specs.declared.report.Growth.TheVariants.{OneMore, OneLess}
 use Rattle.linear.specs.History.{is_decision}
 use Rattle.linear.proofs.Reach.{here}
 use Rattle.linear.proofs.State.{State, kept_length, shape_of, stepped}
@@ -24,7 +25,7 @@ use Rattle.linear.proofs.Invariant.{In, Inv, Range, promised, sane_at, live_held
 use Rattle.linear.proofs.Effects.{Known, old, top, link, Act, quiet, fills, links, marks, at_node, off_node, two_nodes}
 use Rattle.linear.proofs.Stable.{both_held_kept, gap_kept}
 use Rattle.linear.proofs.After.{Places, live_after, own_after, others_after}
-use Rattle.linear.proofs.Course.{goes_in, goes_out, present, missing, late, Row}
+use Rattle.linear.proofs.Course.{goes_in, goes_out, present, missing, late, as_kept, as_added, as_taken, Row}
 use Rattle.linear.proofs.TurnKinds.{whole, removing, updates, any_look_up, curr_known, sane_parts, key_in_range, goes_row, finds_out, looks_on, settles_row}
 
 -- without an answer, neither 13 nor 23 decides
@@ -68,7 +69,7 @@ module _ {nodes : ℕ} {s : State} (inv : Inv nodes s) (me : ℕ) where
       let f = promised inv me at in
       let q = sane_parts inv me at (omega arith) in
       let held = f.stay.stays.held in
-      settles_row inv me at 19 2 (quiet (omega arith)) (λ k f. f) held (whole _ _ true q.0 q.1 refl)
+      settles_row inv me at 19 2 (quiet (omega arith)) (λ k f. f) (as_kept tt refl) held (whole _ _ true q.0 q.1 refl)
       (present tt
       (in_set (in_curr refl) held.held.found.searching.curr_in f.stay.unmarked (eqb-true _ _ t) (omega arith)
       (key_in_range inv me at (omega arith)))
@@ -87,7 +88,7 @@ module _ {nodes : ℕ} {s : State} (inv : Inv nodes s) (me : ℕ) where
   row_13 false false a t at =
       let f = promised inv me at in
       let q = sane_parts inv me at (omega arith) in
-      settles_row inv me at 19 2 (quiet (omega arith)) (λ k f. f) f.stay.stays.held (whole _ _ true q.0 q.1 refl)
+      settles_row inv me at 19 2 (quiet (omega arith)) (λ k f. f) (as_kept tt refl) f.stay.stays.held (whole _ _ true q.0 q.1 refl)
       (missing tt
       (not_in_set f (omega arith)
       (omega (arith, f.stay.stays.held.held.found.above, eqb-false (s.key w.curr) w.key t)))
@@ -174,30 +175,30 @@ module _ {nodes : ℕ} {s : State} (inv : Inv nodes s) (me : ℕ) where
   row_14 None f at =
       let gap = promised inv me at in
       let q = sane_parts inv me at (omega arith) in
-      settles_row inv me at 19 3 (quiet (omega arith)) (λ k f. f) gap.neighbours.stay.stays.held
+      settles_row inv me at 19 3 (quiet (omega arith)) (λ k f. f) (as_kept tt refl) gap.neighbours.stay.stays.held
       (whole _ _ true (updates w.operation (inl (eqb-true _ _ q.0))) q.1 refl)
       (missing tt (not_in_set gap.neighbours (omega arith) gap.above) (inl (eqb-true _ _ q.0, refl)))
       refl (eqb-true _ _ q.2) (omega arith) refl
   row_14 (Some n) f at = row_fill at f.0 f.1
 
-  pub row_15 : w.stage ≡ 15 → Row nodes s me (goes (with_answer w 1) 19 (SetNext w.pred w.spare))
+  pub row_15 : w.stage ≡ 15 → Row nodes s me (growing (goes (with_answer w 1) 19 (SetNext w.pred w.spare)) OneMore)
   unfolding promises belongs is_decision
   row_15 at =
       let f = promised inv me at in
       let q = sane_parts inv me at (omega arith) in
-      settles_row inv me at 19 1 (links at (key_in_range inv me at (omega arith)) f) (λ k f. f)
+      settles_row inv me at 19 1 (links at (key_in_range inv me at (omega arith)) f) (λ k f. f) (as_added tt refl)
       (both_held_kept _ me w.key w.pred w.curr (λ n h l. refl) (λ n h l o. o) f.gap.neighbours.stay.stays.held)
       (whole _ _ true (updates w.operation (inl (eqb-true _ _ q.0))) q.1 refl) (goes_in tt (eqb-true _ _ q.0) refl) refl
       (eqb-true _ _ q.2)
       (omega arith) refl
 
-  pub row_16 : w.stage ≡ 16 → Row nodes s me (goes (with_answer w 1) 17 (SetMark w.curr))
+  pub row_16 : w.stage ≡ 16 → Row nodes s me (growing (goes (with_answer w 1) 17 (SetMark w.curr)) OneLess)
   unfolding promises belongs is_decision
   row_16 at =
       let f = promised inv me at in
       let q = sane_parts inv me at (omega arith) in
       let stays = f.neighbours.stay.stays in
-      settles_row inv me at 17 1 (marks (omega arith) (key_in_range inv me at (omega arith)) f) (λ k f. f)
+      settles_row inv me at 17 1 (marks (omega arith) (key_in_range inv me at (omega arith)) f) (λ k f. f) (as_taken tt refl)
       (record {
         stays =
             record {
@@ -231,7 +232,7 @@ module _ {nodes : ℕ} {s : State} (inv : Inv nodes s) (me : ℕ) where
       let q = sane_parts inv me at (omega arith) in
       let above : w.key < s.key w.curr = omega
       (arith, ltb-false (s.key w.curr) w.key t, eqb-false (s.key w.curr) w.key u) in
-      settles_row inv me at 21 2 (quiet (omega arith)) (λ k f. f) tt
+      settles_row inv me at 21 2 (quiet (omega arith)) (λ k f. f) (as_kept tt refl) tt
       (whole _ _ true (any_look_up w.operation (eqb-true _ _ q.0)) q.1 refl)
       (late tt (eqb-true _ _ q.0) refl (omega arith)
       (nothing_ahead inv.shape (live_held me (in_curr refl) (promised inv me at).curr_in) (inl above)))
@@ -251,7 +252,7 @@ module _ {nodes : ℕ} {s : State} (inv : Inv nodes s) (me : ℕ) where
   row_25 true t at =
       let f = promised inv me at in
       let q = sane_parts inv me at (omega arith) in
-      settles_row inv me at 21 1 (quiet (omega arith)) (λ k f. f) tt
+      settles_row inv me at 21 1 (quiet (omega arith)) (λ k f. f) (as_kept tt refl) tt
       (whole _ _ true (any_look_up w.operation (eqb-true _ _ q.0)) q.1 refl)
       (present tt (in_set (in_curr refl) f.curr_in (eqb-true _ _ t) f.hit (omega arith) (key_in_range inv me at (omega arith)))
       (inr (eqb-true _ _ q.0, refl)))
@@ -259,7 +260,7 @@ module _ {nodes : ℕ} {s : State} (inv : Inv nodes s) (me : ℕ) where
   row_25 false t at =
       let f = promised inv me at in
       let q = sane_parts inv me at (omega arith) in
-      settles_row inv me at 21 2 (quiet (omega arith)) (λ k f. f) tt
+      settles_row inv me at 21 2 (quiet (omega arith)) (λ k f. f) (as_kept tt refl) tt
       (whole _ _ true (any_look_up w.operation (eqb-true _ _ q.0)) q.1 refl)
       (late tt (eqb-true _ _ q.0) refl (omega arith)
       (nothing_ahead inv.shape (live_held me (in_curr refl) f.curr_in) (inr (f.hit, eqb-false (s.mark w.curr) 0 t))))

@@ -52,7 +52,7 @@ module _ {nodes : ℕ} {s : State} {w : ℕ} where
   not_linking (unlinks c r f) k = c
 
   -- where a key is added, the worker is at 15
-  linking : {e : Effect} (act : Act nodes s w e) → Adds act →
+  pub linking : {e : Effect} (act : Act nodes s w e) → Adds act →
       Filled nodes s w (s.worker w).key (s.worker w).pred (s.worker w).curr (s.worker w).spare × ((s.worker w).stage ≡ 15)
   linking (quiet c) k = absurd k
   linking (owns c o) k = absurd k

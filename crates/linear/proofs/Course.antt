@@ -12,6 +12,8 @@ use Rattle.worker.specs.declared.report.Report.{Report}
 use Rattle.worker.specs.declared.report.Report.TheVariants as report
 use Rattle.worker.specs.declared.report.Step.{Step}
 use Rattle.worker.specs.declared.report.Effect.{Effect}
+use Rattle.worker.specs.declared.report.Growth.{Growth}
+use Rattle.worker.specs.declared.report.Growth.TheVariants.{Stays, OneMore, OneLess}
 use Rattle.linear.specs.Entries.{is_finished, turn_reported}
 use Rattle.linear.specs.History.{is_decision}
 use Rattle.linear.proofs.State.{State, stepped}
@@ -76,9 +78,16 @@ module _ {nodes : ℕ} {s : State} {w : ℕ} {e : Effect} (act : Act nodes s w e
         is_decision (s.worker w).stage new.answer ≡ true → is_moved report ≡ true → Course report
     ends : Keeps act → (s.worker w).stage ≡ 21 → new.stage ≡ 0 → is_finished (turn_reported report) ≡ true → Course report
 
+-- the count changes as the set does
+pub data Grows {nodes : ℕ} {s : State} {w : ℕ} {e : Effect} (act : Act nodes s w e) (growth : Growth) : Type 0 where
+  as_kept : Keeps act → growth ≡ Stays → Grows act growth
+  as_added : Adds act → growth ≡ OneMore → Grows act growth
+  as_taken : Takes act → growth ≡ OneLess → Grows act growth
+
 -- all that is said of a turn
 pub record Row (nodes : ℕ) (s : State) (w : ℕ) (step : Step) : Type 0 where
   pub act : Act nodes s w step.effect
+  pub grows : Grows act step.growth
   pub placed : Places nodes s w step
   pub standing : Standing nodes (stepped s w step) w step.worker
   pub course : Course act step.worker step.report

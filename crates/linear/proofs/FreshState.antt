@@ -2,15 +2,16 @@
 use Prim.Native.Nat.{ℕ, zero, suc, ◌+◌, ◌-◌, ◌≤◌, ◌<◌}
 use mathlib.Core.Path.{◌≡◌, refl, sym, ap, ◌∙◌}
 use mathlib.Core.List.{List, [], ◌∷◌, ◌++◌, flatten, append-nil}
-use mathlib.Core.Bool.{true}
+use mathlib.Core.Bool.{Bool, true, false, cond}
 use native.Mathlib.Omega.{arith}
 use native.Mathlib.Decide.{dec_lt}
 use native.Mathlib.Nat.{mul-suc}
 use lib.ListN.{length, replicate, length-append, get_or-append}
 use lib.Seq.{get_or-append-add, get_or-take}
+use Rattle.std.specs.Prelude.{Some, None}
 use Rattle.worker.specs.Node.{head, tail, head_node, tail_node, unused_node}
 use Rattle.worker.specs.Worker.{idle_worker}
-use Rattle.words.specs.Layout.{word, worker_from, worker_width, slot, good_counts, header_words, node_width, node_key, node_next, node_owner, node_from}
+use Rattle.words.specs.Layout.{word, worker_from, worker_width, slot, good_counts, has_count, header_words, stored_in, node_width, node_key, node_next, node_owner, node_from}
 use Rattle.words.specs.Records.{worker_words, node_words, node_at}
 use Rattle.words.specs.Header.{header_refusals}
 use Rattle.words.proofs.Bounds.{Counts, counts, wide, narrow}
@@ -45,6 +46,7 @@ pub record FreshState (s : State) : Type 0 where
   pub unused : (n : ℕ) → 2 ≤ n → (s.key n ≡ 0) × (s.next n ≡ 0)
   pub unowned : (n : ℕ) → s.owner n ≡ 0
   pub idle : (v : ℕ) → s.worker v ≡ idle_worker
+  pub none_stored : {stored : ℕ} → s.stored ≡ Some stored → stored ≡ 0
 
 -- copies of some words, one after the other: each is those words
 copies_at : (values : List ℕ) (count n k : ℕ) → n < count → k < length values →
@@ -114,7 +116,7 @@ module _ (layout workers nodes : ℕ) (good : good_counts layout workers nodes �
 
   -- what stands before the nodes
   abbrev before : List ℕ
-  before = header_words layout workers nodes ++ fresh_workers workers
+  before = header_words layout workers nodes 0 ++ fresh_workers workers
 
   -- a field of a node that there is
   node_field : (n f : ℕ) → n < nodes → f < node_width layout → field_in fresh n f ≡ word (fresh_fields n) f
@@ -148,12 +150,21 @@ module _ (layout workers nodes : ℕ) (good : good_counts layout workers nodes �
       words : v < workers → (k : ℕ) → k < worker_width → word fresh (worker_from v + k) ≡ word (worker_words idle_worker) k
       words there k inside =
           let at = slot worker_width v k in
-          let header = header_words layout workers nodes in
+          let header = header_words layout workers nodes 0 in
           let place : worker_from v + k ≡ length header + at = omega arith in
           get_or-append before (fresh_nodes (node_width layout) nodes) 0 (worker_from v + k) (omega (arith, nodes_place layout workers nodes))
           ∙ ap (word before) place
           ∙ get_or-append-add header (fresh_workers workers) at 0
           ∙ copies_at (worker_words idle_worker) workers v k there inside
+
+  -- and no label is stored
+  uncounted : {stored : ℕ} → stored_in fresh ≡ Some stored → stored ≡ 0
+  unfolding fresh_words header_words
+  uncounted {stored} = go (has_count layout)
+    where
+      go : (counts : Bool) → cond counts (Some 0) None ≡ Some stored → stored ≡ 0
+      go true e = cc
+      go false e = let z : ◌≡◌ {A = ℕ} 0 1 = cc in absurd (omega arith)
 
 -- so the fresh arena decodes to a fresh state
 pub fresh_state : (layout workers nodes : ℕ) → good_counts layout workers nodes ≡ true → FreshState (decode (fresh_words layout workers nodes))
@@ -167,6 +178,7 @@ fresh_state layout workers nodes good =
       unused = unused;
       unowned = unowned;
       idle = idle_record layout workers nodes good;
+      none_stored = uncounted layout workers nodes good;
     }
   where
     four : 4 ≤ node_width layout

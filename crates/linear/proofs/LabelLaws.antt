@@ -1,13 +1,14 @@
 -- Laws of sets as lists of labels that rise by key.
-use Prim.Native.Nat.{ℕ, ◌≤◌, ◌<◌}
+use Prim.Native.Nat.{ℕ, suc, ◌≤◌, ◌<◌}
 use mathlib.Core.Path.{◌≡◌, refl, sym, ap, ap₂, ◌∙◌}
-use mathlib.Core.Logic.{◌⊎◌, inl, inr, ⊎_elim}
+use mathlib.Core.Logic.{◌⊎◌, inl, inr, ⊎_elim, ◌≢◌}
 use mathlib.Core.List.{List, [], ◌∷◌, Memᴰ}
 use mathlib.Core.Bool.{Bool, true, false, cond, not, ◌||◌, true≢false}
 use mathlib.Core.Option.{Option, none, some, none-ne-some}
 use mathlib.Mathlib.Data.Bool.Basic.{dichotomy, or-eq-false-eq-eq-false-and-eq-false}
 use native.Mathlib.Omega.{arith}
 use native.Mathlib.Decide.{ℕ_discrete}
+use lib.ListN.{length}
 use lib.Dec.{ltb, eqb}
 use borrow.Author.Tests.{eqb-true, eqb-false, eq-eqb, ne_eqb, ltb-true, ltb-false}
 use Rattle.std.specs.List.{filter}
@@ -196,3 +197,32 @@ rising_same (x ∷ xs) (y ∷ ys) (above ahead r) (beyond ahead s) same =
           | yes q ↦ rw q (below_all x.key above ∙ sym (rw keys (below_all y.key beyond)))
           | no q ↦ rw (ne_eqb key x.key q, ne_eqb key y.key (λ e. q (e ∙ sym keys))) at (same key)
         ]
+
+-- with a label put in its place there is one more, and with a key of the list taken out one less
+pub including_length : (label : Label) (labels : List Label) → length (including label labels) ≡ suc (length labels)
+unfolding including
+including_length label [] = refl
+including_length label (first ∷ labels) =
+    ⊎_elim (λ later. rw later (ap suc (including_length label labels))) (λ before. rw before) (dichotomy (ltb label.key first.key))
+
+excluding_above : (key : ℕ) (labels : List Label) → Each (λ other. key < other.key) labels → excluding key labels ≡ labels
+unfolding excluding
+excluding_above key [] above = refl
+excluding_above key (first ∷ labels) (over and above) =
+    rw (ne_eqb key first.key (omega arith)) (ap (λ later. first ∷ later) (excluding_above key labels above))
+
+pub excluding_length : (key : ℕ) (labels : List Label) → Rising labels → member key labels ≡ true → suc (length (excluding key labels)) ≡ length labels
+unfolding member excluding
+excluding_length key [] rises there = absurd (true≢false (sym there))
+excluding_length key (first ∷ labels) (above ahead rises) there =
+    ⊎_elim (λ other. rw other (ap suc (excluding_length key labels rises (rw other at there))))
+    (λ same.
+    let own = eqb-true key first.key same in
+    rw same (ap (λ (rest : List Label). suc (length rest)) (excluding_above key labels (rw own above))))
+    (dichotomy (eqb key first.key))
+
+-- a list that has a member is not empty
+pub member_some : (key : ℕ) (labels : List Label) → member key labels ≡ true → length labels ≢ 0
+unfolding member
+member_some key [] there empty = true≢false (sym there)
+member_some key (label ∷ labels) there empty = omega arith

@@ -21,6 +21,7 @@ use Rattle.linear.proofs.Timeline.{Schedule, fresh_schedule, sound}
 use Rattle.linear.proofs.Rests.{all_rest}
 use Rattle.linear.proofs.TrueSnapshots.{all_true}
 use Rattle.linear.proofs.Waiting.{all_blocked}
+use Rattle.linear.proofs.Counting.{counts_exact}
 use Rattle.linear.proofs.Theorem.{proved, unmet, sets_exact}
 
 module _ (lent : List ℕ) (layout workers nodes : ℕ) (entries : List Entry) (accepts : init_answer lent layout workers nodes ≡ accepted []) where
@@ -87,6 +88,7 @@ module _ (lent : List ℕ) (layout workers nodes : ℕ) (entries : List Entry) (
         linearizable = proved r;
         unbroken = unmet r;
         exact_sets = sets_exact r;
+        exact_counts = counts_exact r;
         resting = all_rest r;
         waiting = all_blocked r;
         true_snapshots = all_true r;

@@ -41,5 +41,6 @@ pub mod Calls
 pub mod Openings
 pub mod OpenCalls
 pub mod Waiting
+pub mod Counting
 pub mod Theorem
 pub mod LentLaws

@@ -15,6 +15,7 @@ use Rattle.std.specs.Prelude.{Option, Some, None}
 use Rattle.worker.specs.declared.report.Report.{Report}
 use Rattle.worker.specs.declared.report.Report.TheVariants.{Idle, Waits}
 use Rattle.worker.specs.declared.report.Step.{Step}
+use Rattle.worker.specs.declared.report.Growth.{Growth}
 use Rattle.worker.specs.declared.report.Effect.{Effect}
 use Rattle.worker.specs.declared.report.Effect.TheVariants.{Nothing, SetOwner}
 use Rattle.worker.proofs.Tables.{AllFrom, end, ◌then◌, row_at}
@@ -92,9 +93,9 @@ module _ {nodes : ℕ} {s : State} (inv : Inv nodes s) (me : ℕ) where
       record { locks = λ node. stays refl (λ h. absurd (has_none p c (at_stage at h))); waits = moving moves; still = moving moves }
 
   -- a turn that leaves pred and curr as they are, and has the locks of both then
-  both : (new : Worker) (report : Report) (e : Effect) → ((node : ℕ) → (owner_after e node ≡ 0) ⊎ (owner_after e node ≡ s.owner node)) →
+  both : {growth : Growth} (new : Worker) (report : Report) (e : Effect) → ((node : ℕ) → (owner_after e node ≡ 0) ⊎ (owner_after e node ≡ s.owner node)) →
       is_waits (turn_reported report) ≡ false → new.pred ≡ w.pred → new.curr ≡ w.curr →
-      has_pred new.stage && has_curr new.stage ≡ true → Locking (record { worker = new; report = report; effect = e })
+      has_pred new.stage && has_curr new.stage ≡ true → Locking (record { worker = new; report = report; effect = e; growth = growth })
   both new report e owners moves p c has =
       let (first, second) = (and-eq-true_iff _ _).0 has in
       record {
@@ -112,10 +113,10 @@ module _ {nodes : ℕ} {s : State} (inv : Inv nodes s) (me : ℕ) where
   keeps answer m has = both _ _ _ (λ node. inr refl) refl refl refl has
 
   -- a lock is taken or given up: what becomes of it, and that the others stay
-  sets : {node owner : ℕ} (new : Worker) (report : Report) → is_waits (turn_reported report) ≡ false →
-      Lock (record { worker = new; report = report; effect = SetOwner node owner }) node →
+  sets : {node owner : ℕ} {growth : Growth} (new : Worker) (report : Report) → is_waits (turn_reported report) ≡ false →
+      Lock (record { worker = new; report = report; effect = SetOwner node owner; growth = growth }) node →
       ((n : ℕ) → n ≢ node → Locks w n → Locks new n) →
-      Locking (record { worker = new; report = report; effect = SetOwner node owner })
+      Locking (record { worker = new; report = report; effect = SetOwner node owner; growth = growth })
   sets {node} {owner} new report moves this others =
       record {
         locks =

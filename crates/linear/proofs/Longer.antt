@@ -1,6 +1,7 @@
 -- An arena with further words behind it: entries come to the same, and the further words stay.
-use Prim.Native.Nat.{ℕ, suc, ◌+◌, ◌-◌, ◌<◌}
+use Prim.Native.Nat.{ℕ, suc, ◌+◌, ◌-◌, ◌≤◌, ◌<◌}
 use mathlib.Core.Path.{◌≡◌, refl, sym, ap, ◌∙◌, fun_ext}
+use mathlib.Core.Logic.{◌≢◌}
 use mathlib.Core.List.{List, [], ◌++◌}
 use mathlib.Core.Bool.{Bool, true, false, cond}
 use native.Mathlib.Omega.{arith}
@@ -11,18 +12,20 @@ use lib.Dec.{leb}
 use borrow.Author.Tests.{le-leb, leb-false}
 use Rattle.worker.specs.Node.{new_node}
 use Rattle.worker.specs.Worker.{started_worker}
+use Rattle.worker.specs.Stages.{grown}
 use Rattle.worker.specs.Refusals.{Test, judged}
 use Rattle.worker.specs.declared.report.Step.{Step}
 use Rattle.worker.specs.declared.refusal.Refusal.{Refusal}
-use Rattle.worker.specs.declared.refusal.Refusal.TheVariants.{NoSuchWorker}
+use Rattle.worker.specs.declared.refusal.Refusal.TheVariants.{NoSuchWorker, BrokenCount}
 use Rattle.worker.specs.Turn.{turn_of}
 use Rattle.worker.specs.declared.Worker.{Worker}
+use Rattle.worker.specs.declared.report.Growth.{Growth}
 use Rattle.worker.specs.declared.report.Effect.{Effect}
 use Rattle.worker.specs.declared.report.Effect.TheVariants.{Nothing, SetOwner, SetNext, SetMark, Fill}
-use Rattle.std.specs.Prelude.{Result, Ok, Err}
+use Rattle.std.specs.Prelude.{Some, None, Result, Ok, Err}
 use Rattle.worker.proofs.RefusalLaws.{NoneHolds, judged_append, none_accepts}
 use Rattle.worker.proofs.EffectLaws.{EffectBelow}
-use Rattle.words.specs.Layout.{word, header_width, worker_from, node_width, layout_of, workers_of, nodes_of, nodes_from_of, total_of, node_part, node_from, node_key, node_next, node_mark, node_owner, has_length}
+use Rattle.words.specs.Layout.{word, header_width, worker_from, node_width, layout_of, workers_of, nodes_of, nodes_from_of, stored_of, stored_in, has_count, stored_at, total_of, node_part, node_from, node_key, node_next, node_mark, node_owner, has_length}
 use Rattle.words.specs.Records.{worker_at, worker_words, with_worker, node_words, with_node, node_at}
 use Rattle.words.specs.Replies.{Reply, refused, accepted, replied}
 use Rattle.words.specs.Header.{header_refusals}
@@ -33,13 +36,13 @@ use Rattle.words.proofs.RecordLaws.{node_long}
 use Rattle.words.proofs.Runs.{sets_front}
 use Rattle.words.specs.declared.entry.Entry.{Entry}
 use Rattle.arena.specs.Start.{call_refusals, start_refusals, start_arena}
-use Rattle.lazy.specs.Turn.{outcome_of, seen_of, seen_by, turn_on, with_effect, turned_arena, turn_arena}
+use Rattle.lazy.specs.Turn.{outcome_of, seen_of, seen_by, miscounts, counted, turn_on, with_effect, with_count, with_growth, with_changes, turned_arena, turn_arena}
+use Rattle.lazy.proofs.ChangeLaws.{effect_long, changes_long}
 use Rattle.lazy.proofs.TurnLaws.{turn_accepted}
 use Rattle.lazy.proofs.InsideLaws.{effect_below, field_inside}
 use Rattle.linear.specs.Entries.{is_turn, call_started, entry_refused, turn_event, event_of, after}
 use Rattle.linear.specs.Lent.{Unseen, MoreUnseen}
 use Rattle.linear.proofs.State.{decode}
-use Rattle.linear.proofs.Words.{effect_long}
 use Rattle.linear.proofs.Stepped.{header_of, record_words, none_same, worker_same, place_same}
 use Rattle.linear.proofs.Bridge.{Sound, roots_same, turn_judged, turn_unknown}
 
@@ -57,8 +60,13 @@ module _ (arena more : List ℕ) (none : NoneHolds (header_refusals arena)) wher
   header_word : (at : ℕ) → at < header_width → word longer at ≡ word arena at
   header_word at inside = same_word at (omega (arith, order.long))
 
+  same_header : (at : ℕ) → at < header_width → at ≢ stored_at → word longer at ≡ word arena at
+  same_header at inside off = header_word at inside
+
   none_longer : NoneHolds (header_refusals longer)
-  none_longer = none_same arena longer header_word (rw length-append (omega arith)) none
+  none_longer =
+      none_same arena longer same_header (rw length-append (omega arith))
+      (rw (header_word stored_at (omega arith)) order.few_stored) none
 
   sound_here : Sound (layout_of arena) (workers_of arena) (nodes_of arena) arena
   sound_here = record { none = none; layout_is = refl; workers_are = refl; nodes_are = refl }
@@ -88,6 +96,10 @@ module _ (arena more : List ℕ) (none : NoneHolds (header_refusals arena)) wher
       ∙ ap (take count) (drop-append-le from arena more (omega (arith, order.whole, order.from, order.end)))
       ∙ take-append-le count (drop from arena) more (rw length-drop (omega (arith, order.whole, order.from, order.end)))
 
+  -- and the count
+  count_same : stored_in longer ≡ stored_in arena
+  count_same = λ i. cond (has_count (header_word 0 (omega arith) i)) (Some (header_word stored_at (omega arith) i)) None
+
   -- decoded it is the same state
   pub state_same : decode (arena ++ more) ≡ decode arena
   state_same =
@@ -100,7 +112,8 @@ module _ (arena more : List ℕ) (none : NoneHolds (header_refusals arena)) wher
         owner = λ n. (node n).owner;
         length = λ n. (node n).length;
         lengths = has_length (node_width (header_word 0 (omega arith) i));
-        worker = fun_ext (λ v. worker_same arena longer header_word v (record_same v)) i;
+        stored = count_same i;
+        worker = fun_ext (λ v. worker_same arena longer same_header v (record_same v)) i;
       }
 
   -- so a turn sees the same, and is the same
@@ -115,13 +128,19 @@ module _ (arena more : List ℕ) (none : NoneHolds (header_refusals arena)) wher
         roots_same (worker_at longer) (worker_at arena) (workers_of arena) record_same,
       )
 
+  counted_same : (t : Result Step Refusal) → counted longer t ≡ counted arena t
+  unfolding counted
+  counted_same (Err refusal) = refl
+  counted_same (Ok step) =
+      λ i. cond (miscounts (header_word 2 (omega arith) i) (count_same i) step.growth) (Err BrokenCount) (Ok step)
+
   turn_same : (w : ℕ) → turn_on longer w ≡ turn_on arena w
   turn_same w =
       elim (dec_lt w (workers_of arena)) [
         | yes known ↦
             let seen = ap (seen_by longer) (record_same w known) ∙ seen_same (worker_at arena w) in
             turn_judged sound_longer w
-            ∙ (λ i. cond (leb (header_word 1 (omega arith) i) w) (Err NoSuchWorker) (turn_of (record_same w known i) (suc w) (seen i)))
+            ∙ (λ i. cond (leb (header_word 1 (omega arith) i) w) (Err NoSuchWorker) (counted_same (turn_of (record_same w known i) (suc w) (seen i)) i))
             ∙ sym (turn_judged sound_here w)
         | no unknown ↦ turn_unknown sound_longer w (omega arith) ∙ sym (turn_unknown sound_here w (omega arith))
       ]
@@ -131,7 +150,7 @@ module _ (arena more : List ℕ) (none : NoneHolds (header_refusals arena)) wher
       set longer (node_from longer node field) value ≡ set arena (node_from arena node field) value ++ more
   field_longer node field value below fits =
       let inside = field_inside arena node field order below fits in
-      ap (λ at. set longer at value) (place_same arena longer header_word node field)
+      ap (λ at. set longer at value) (place_same arena longer same_header node field)
       ∙ set-append_left arena more (node_from arena node field) value (omega (arith, order.whole))
 
   effect_longer : (e : Effect) → EffectBelow (nodes_of arena) e → with_effect longer e ≡ with_effect arena e ++ more
@@ -144,9 +163,23 @@ module _ (arena more : List ℕ) (none : NoneHolds (header_refusals arena)) wher
       let filled = new_node key next length in
       let width = node_width (layout_of arena) in
       let last = field_inside arena node (width - 1) order below (omega (arith, wide order.good)) in
-      (λ i. sets longer (place_same arena longer header_word node node_key i) (node_words (node_width (header_word 0 (omega arith) i)) filled))
+      (λ i. sets longer (place_same arena longer same_header node node_key i) (node_words (node_width (header_word 0 (omega arith) i)) filled))
       ∙ sets_front (node_words width filled) arena more (node_from arena node node_key)
       (omega (arith, order.whole, node_long width filled (narrow (layout_of arena)), wide order.good))
+
+  -- and its count too
+  growth_longer : (words : List ℕ) (g : Growth) → header_width ≤ length words → with_growth (words ++ more) g ≡ with_growth words g ++ more
+  unfolding with_growth with_count
+  growth_longer words g long =
+      (λ i.
+      cond (has_count (get_or-append words more 0 0 (omega arith) i))
+      (set (words ++ more) stored_at (grown g (get_or-append words more 0 stored_at (omega arith) i))) (words ++ more))
+      ∙ go (has_count (layout_of words))
+    where
+      go : (counts : Bool) → cond counts (set (words ++ more) stored_at (grown g (stored_of words))) (words ++ more)
+          ≡ cond counts (set words stored_at (grown g (stored_of words))) words ++ more
+      go true = set-append_left words more stored_at (grown g (stored_of words)) (omega arith)
+      go false = refl
 
   record_longer : (words : List ℕ) (w : ℕ) (to : Worker) → length words ≡ length arena → w < workers_of arena →
       with_worker (words ++ more) w to ≡ with_worker words w to ++ more
@@ -161,8 +194,10 @@ module _ (arena more : List ℕ) (none : NoneHolds (header_refusals arena)) wher
       go : (t : Result Step Refusal) → turn_on arena w ≡ t → turned_arena longer w t ≡ turned_arena arena w t ++ more
       go (Err refusal) e = refl
       go (Ok step) e =
-          ap (λ words. with_worker words w step.worker) (effect_longer step.effect (effect_below arena w e))
-          ∙ record_longer (with_effect arena step.effect) w step.worker (effect_long arena step.effect) (turn_accepted arena w e).known
+          ap (λ words. with_worker (with_growth words step.growth) w step.worker) (effect_longer step.effect (effect_below arena w e))
+          ∙ ap (λ words. with_worker words w step.worker)
+          (growth_longer (with_effect arena step.effect) step.growth (omega (arith, effect_long arena step.effect, order.long)))
+          ∙ record_longer (with_changes arena step) w step.worker (changes_long arena step) (turn_accepted arena w e).known
 
   -- a start is judged the same
   module _ (w operation key length : ℕ) where

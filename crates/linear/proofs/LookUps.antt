@@ -14,8 +14,9 @@ use Rattle.worker.specs.declared.report.Answer.{Answer}
 use Rattle.worker.specs.declared.report.Answer.TheVariants.{Yes, No}
 use Rattle.worker.specs.declared.report.Report.TheVariants.{Moved, Finished}
 use Rattle.worker.specs.declared.report.Step.{Step}
+use Rattle.worker.specs.declared.report.Growth.TheVariants.{Stays}
 use Rattle.worker.proofs.TurnLaws.{step_row}
-use Rattle.lazy.specs.Turn.{seen_of}
+use Rattle.lazy.specs.Turn.{seen_of, miscounts}
 use Rattle.linear.specs.Entries.{turn_reported, event_of, after}
 use Rattle.linear.specs.Snapshots.{own_turn, after_turns, Finishes}
 use Rattle.linear.proofs.Reach.{Reach, here, one_more}
@@ -57,16 +58,17 @@ module _ (layout workers nodes : ℕ) (s : State) (inv : Inv nodes s) (w key : �
   tells_later told = (λ i. later (told.0 i), λ out. later (told.1 out))
 
   -- its turn
-  turned : {arena : List ℕ} {stage curr : ℕ} → Looks arena stage curr →
+  turned : {arena : List ℕ} {stage curr : ℕ} → Looks arena stage curr → (turn_step workers nodes (decode arena) w).growth ≡ Stays →
       (event_of arena (own_turn w) ≡ turn_reported (turn_step workers nodes (decode arena) w).report)
       × (decode (next arena) ≡ stepped (decode arena) w (turn_step workers nodes (decode arena) w))
-  turned looks = turn_enters looks.sound (own_turn w) refl known (passes looks.holds workers w)
+  turned {arena} looks stays =
+      turn_enters looks.sound (own_turn w) refl known (passes looks.holds workers w) (ap (miscounts nodes (decode arena).stored) stays)
 
   -- one that moves and writes its record alone
   module _ {arena : List ℕ} {stage curr : ℕ} (looks : Looks arena stage curr) (new : Worker)
       (is : turn_step workers nodes (decode arena) w ≡ reports new (Moved new.stage)) where
     moved : decode (next arena) ≡ stepped (decode arena) w (reports new (Moved new.stage))
-    moved = (turned looks).1 ∙ ap (stepped (decode arena) w) is
+    moved = (turned looks (ap (λ (step : Step). step.growth) is)).1 ∙ ap (stepped (decode arena) w) is
 
     new_is : me (next arena) ≡ new
     new_is = ap (λ (s : State). s.worker w) moved ∙ rw (eq-eqb w w refl)
@@ -95,7 +97,7 @@ module _ (layout workers nodes : ℕ) (s : State) (inv : Inv nodes s) (w key : �
       later (record {
         turns = 0;
         finished =
-            (turned last).0
+            (turned last (ap (λ (step : Step). step.growth) (step_row (me (next arena)) _ _ last.at))).0
             ∙ ap (λ (step : Step). turn_reported step.report) (step_row (me (next arena)) _ _ last.at)
             ∙ ap (λ (me : Worker). turn_reported (Finished (numbered_answer me.answer))) (new_is looks new is);
       })

@@ -19,7 +19,7 @@ use Rattle.linear.proofs.Bridge.{Sound}
 use Rattle.linear.proofs.Invariant.{In, Inv, live_chain, live_in}
 
 -- a run of links leads from Head to every node of the chain
-chain_run : {next : ℕ → ℕ} {count n : ℕ} → OnChain next count n → Reach next 0 n
+pub chain_run : {next : ℕ → ℕ} {count n : ℕ} → OnChain next count n → Reach next 0 n
 chain_run (top some) = here refl
 chain_run (link on more low) = one_more (chain_run on)
 

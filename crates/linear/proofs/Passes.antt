@@ -1,4 +1,4 @@
--- No worker's turn is refused under the invariant.
+-- Under the invariant no worker's turn is refused for its record, or for a link that it follows.
 use Prim.Native.Nat.{ℕ, ◌<◌}
 use mathlib.Core.Path.{◌≡◌, refl}
 use mathlib.Core.Bool.{Bool, true, false, cond, not, ◌&&◌, ◌||◌, and-eq-true_iff}
@@ -96,7 +96,7 @@ module _ {nodes : ℕ} {s : State} (inv : Inv nodes s) where
         then (λ f. rw (below f.curr_in))
         then end
 
-    -- so no test of the turn holds
+    -- so no such test of the turn holds
     pub passes : NoneHolds (turn_refusals (s.worker w) (seen_in workers nodes s w))
     unfolding turn_refusals busy_refusals seen_of
     passes =

@@ -19,7 +19,7 @@ use Rattle.linear.proofs.Promises.{in_pred, in_curr, BothHeld, CurrHeld, promise
 use Rattle.linear.proofs.Invariant.{Inv, promised, sane_at, live_held}
 use Rattle.linear.proofs.Effects.{top, far, link, quiet, unlinks, at_node, off_node, written, two_nodes}
 use Rattle.linear.proofs.Stable.{found_kept, pred_held_kept, both_held_kept}
-use Rattle.linear.proofs.Course.{rests, ends, Row}
+use Rattle.linear.proofs.Course.{rests, ends, as_kept, Row}
 use Rattle.linear.proofs.TurnKinds.{Promised, Sane, whole, updates, any_call, steps, pred_known, curr_known, spare_known, sane_parts, key_in_range, searches, walks, finds_out, waits, owns_row}
 
 module _ {nodes : ℕ} {s : State} (inv : Inv nodes s) (me : ℕ) where
@@ -31,6 +31,7 @@ module _ {nodes : ℕ} {s : State} (inv : Inv nodes s) (me : ℕ) where
   row_0 at =
       record {
         act = quiet (omega arith);
+        grows = as_kept tt refl;
         placed = steps inv me _ _ (λ k f. f) (pred_known inv me) (curr_known inv me) (spare_known inv me);
         standing =
             record {
@@ -188,6 +189,7 @@ module _ {nodes : ℕ} {s : State} (inv : Inv nodes s) (me : ℕ) where
   row_21 at =
       record {
         act = quiet (omega arith);
+        grows = as_kept tt refl;
         placed = steps inv me _ _ (λ k f. f) (far inv.shape.cap) (far inv.shape.cap) (far inv.shape.cap);
         standing = record { promise = tt; sane_record = λ busy. absurd (busy refl) };
         course = ends tt at refl refl;

@@ -12,10 +12,12 @@ use Rattle.worker.specs.declared.report.Seen.{Seen}
 use Rattle.worker.specs.declared.report.Step.{Step}
 use Rattle.worker.specs.declared.report.Effect.{Effect}
 use Rattle.worker.specs.declared.report.Effect.TheVariants.{Nothing, SetOwner, SetNext, SetMark, Fill}
-use Rattle.words.specs.Layout.{word, layout_of, workers_of, node_width, node_key, node_next, node_mark, node_owner, has_length}
+use Rattle.std.specs.Prelude.{Option}
+use Rattle.words.specs.Layout.{word, layout_of, workers_of, stored_in, node_width, node_key, node_next, node_mark, node_owner, has_length}
 use Rattle.words.specs.Records.{worker_at}
 use Rattle.arena.specs.Sets.{node_in}
 use Rattle.lazy.specs.Turn.{seen_of}
+use Rattle.lazy.specs.Claims.{count_after}
 
 pub record State : Type 0 where
   pub key : ℕ → ℕ
@@ -25,6 +27,8 @@ pub record State : Type 0 where
   pub length : ℕ → ℕ
   -- whether nodes have a word for the length
   pub lengths : Bool
+  -- the count of stored labels, if there is one
+  pub stored : Option ℕ
   pub worker : ℕ → Worker
 
 -- what a node keeps of a length
@@ -51,6 +55,7 @@ decode arena =
       owner = λ n. (node_in arena n).owner;
       length = λ n. (node_in arena n).length;
       lengths = has_length (node_width (layout_of arena));
+      stored = stored_in arena;
       worker = λ v. cond (ltb v (workers_of arena)) (worker_at arena v) idle_worker;
     }
 
@@ -83,6 +88,7 @@ stepped s w step =
       owner = λ n. word_after step.effect n node_owner (s.owner n);
       length = λ n. length_after s.lengths step.effect n (s.length n);
       lengths = s.lengths;
+      stored = count_after step.growth s.stored;
       worker = λ v. cond (eqb v w) step.worker (s.worker v);
     }
 

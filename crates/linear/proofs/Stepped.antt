@@ -1,31 +1,33 @@
 -- The arena after a worker's step: its header stays in order, and decoded it is the state after the step.
 use Prim.Native.Nat.{ℕ, ◌+◌, ◌≤◌, ◌<◌}
 use mathlib.Core.Path.{◌≡◌, refl, sym, ap, ◌∙◌, fun_ext}
-use mathlib.Core.Logic.{inl, inr}
+use mathlib.Core.Logic.{inl, inr, ◌≢◌}
 use mathlib.Core.List.{List, []}
 use mathlib.Core.Bool.{Bool, true, false, cond}
 use native.Mathlib.Omega.{arith}
 use native.Mathlib.Decide.{ℕ_discrete, dec_lt}
 use lib.ListN.{length}
 use lib.Seq.{length-sets}
-use borrow.Author.Tests.{eq-eqb, ne_eqb, lt-ltb, le-ltb, ltb-true}
+use borrow.Author.Tests.{eq-eqb, ne_eqb, le-leb, lt-ltb, le-ltb, ltb-true}
 use Rattle.worker.specs.Worker.{idle_worker}
 use Rattle.worker.specs.declared.Worker.{Worker}
 use Rattle.worker.specs.declared.report.Step.{Step}
-use Rattle.std.specs.Prelude.{Ok}
+use Rattle.std.specs.Prelude.{Some, None, Ok}
 use Rattle.worker.proofs.RefusalLaws.{NoneHolds, none_accepts}
 use Rattle.worker.proofs.EffectLaws.{EffectBelow}
-use Rattle.words.specs.Layout.{word, header_width, worker_width, worker_stage, worker_operation, worker_key, worker_pred, worker_curr, worker_spare, worker_answer, worker_length, node_key, node_next, node_mark, node_owner, node_length, has_length, worker_from, node_width, slot, header_words, layout_of, workers_of, nodes_of, nodes_from_of, node_from, total_of}
+use Rattle.words.specs.Layout.{word, header_width, worker_width, worker_stage, worker_operation, worker_key, worker_pred, worker_curr, worker_spare, worker_answer, worker_length, node_key, node_next, node_mark, node_owner, node_length, has_length, worker_from, node_width, slot, header_words, layout_of, workers_of, nodes_of, nodes_from_of, stored_of, stored_in, has_count, most_stored, stored_at, node_from, total_of}
 use Rattle.words.specs.Records.{worker_at, worker_words, with_worker, node_at, Outside}
 use Rattle.words.specs.Replies.{accepted, refusing}
 use Rattle.words.specs.Header.{is_header, header_refusals}
 use Rattle.words.proofs.Bounds.{wide}
 use Rattle.words.proofs.HeaderLaws.{Header, header_holds}
 use Rattle.words.proofs.RecordLaws.{read_back, others_stay}
-use Rattle.lazy.specs.Turn.{with_effect, turned_arena}
+use Rattle.lazy.specs.Turn.{with_effect, with_changes, turned_arena}
+use Rattle.lazy.specs.Claims.{count_after}
+use Rattle.lazy.proofs.ChangeLaws.{CountFits, growth_off, changes_long, changes_before, changes_count, changes_few}
 use Rattle.lazy.proofs.InsideLaws.{field_inside}
 use Rattle.linear.proofs.State.{decode, word_after, length_after, stepped}
-use Rattle.linear.proofs.Words.{field_in, effect_long, effect_before, field_word, no_field, effect_word, word_stays, length_word, no_length}
+use Rattle.linear.proofs.Words.{field_in, field_word, no_field, effect_word, word_stays, length_word, no_length}
 
 -- an arena that the header test does not refuse has its header in order
 pub header_of : (arena : List ℕ) → NoneHolds (header_refusals arena) → Header arena
@@ -69,30 +71,32 @@ known_record arena v there = rw (lt-ltb v (workers_of arena) there)
 pub no_record : (arena : List ℕ) (v : ℕ) → workers_of arena ≤ v → (decode arena).worker v ≡ idle_worker
 no_record arena v gone = rw (le-ltb v (workers_of arena) gone)
 
--- Another arena with the same words in its header:
-module _ (arena other : List ℕ) (same : (at : ℕ) → at < header_width → word other at ≡ word arena at) where
-  -- where it is long enough too, it passes the header test as well
-  pub none_same : length arena ≤ length other → NoneHolds (header_refusals arena) → NoneHolds (header_refusals other)
+-- Another arena with the same words in its header, but for the count:
+module _ (arena other : List ℕ) (same : (at : ℕ) → at < header_width → at ≢ stored_at → word other at ≡ word arena at) where
+  -- where it is long enough too, and its count within its ends, it passes the header test as well
+  pub none_same : length arena ≤ length other → stored_of other ≤ most_stored (layout_of arena) (nodes_of arena) →
+      NoneHolds (header_refusals arena) → NoneHolds (header_refusals other)
   unfolding header_refusals is_header header_words
-  none_same long none =
+  none_same long few none =
       let order = header_of arena none in
-      let total = same 5 (omega arith) in (
+      let total = same 5 (omega arith) (omega arith) in (
         rw (
           le-ltb (length other) header_width (omega (arith, order.long)),
           le-ltb (length other) (total_of other) (omega (arith, order.whole)),
         ),
         (
           rw (
-            same 0 (omega arith),
-            same 1 (omega arith),
-            same 2 (omega arith),
-            same 3 (omega arith),
-            same 4 (omega arith),
-            same 5 (omega arith),
-            same 6 (omega arith),
-            same 7 (omega arith),
+            same 0 (omega arith) (omega arith),
+            same 1 (omega arith) (omega arith),
+            same 2 (omega arith) (omega arith),
+            same 3 (omega arith) (omega arith),
+            same 4 (omega arith) (omega arith),
+            same 5 (omega arith) (omega arith),
+            same 7 (omega arith) (omega arith),
+            le-leb (stored_of other) _ few,
+            eq-eqb (stored_of other) _ refl,
           )
-              none.1.0,
+              (rw (le-leb (stored_of arena) _ order.few_stored, eq-eqb (stored_of arena) _ refl) at none.1.0),
           tt,
         ),
       )
@@ -100,7 +104,7 @@ module _ (arena other : List ℕ) (same : (at : ℕ) → at < header_width → w
   -- decoded, a worker is the same where its record is
   pub worker_same : (v : ℕ) → (v < workers_of arena → worker_at other v ≡ worker_at arena v) → (decode other).worker v ≡ (decode arena).worker v
   worker_same v stays =
-      let workers = same 1 (omega arith) in
+      let workers = same 1 (omega arith) (omega arith) in
       elim (dec_lt v (workers_of arena)) [
         | yes there ↦ known_record other v (omega arith) ∙ stays there ∙ sym (known_record arena v there)
         | no gone ↦ no_record other v (omega arith) ∙ sym (no_record arena v (omega arith))
@@ -109,13 +113,13 @@ module _ (arena other : List ℕ) (same : (at : ℕ) → at < header_width → w
   -- a field of a node stands at the same place
   pub place_same : (node field : ℕ) → node_from other node field ≡ node_from arena node field
   unfolding node_from
-  place_same node field = λ i. same 4 (omega arith) i + slot (node_width (same 0 (omega arith) i)) node field
+  place_same node field = λ i. same 4 (omega arith) (omega arith) i + slot (node_width (same 0 (omega arith) (omega arith) i)) node field
 
 -- the arena after a worker's step
 abbrev pub stepped_arena : List ℕ → ℕ → Step → List ℕ
 stepped_arena arena worker step = turned_arena arena worker (Ok step)
 
-module _ (arena : List ℕ) (none : NoneHolds (header_refusals arena)) (worker : ℕ) (step : Step) where
+module _ (arena : List ℕ) (none : NoneHolds (header_refusals arena)) (worker : ℕ) (step : Step) (fits : CountFits arena step.growth) where
   -- the arena after the step
   abbrev later : List ℕ
   later = stepped_arena arena worker step
@@ -124,24 +128,33 @@ module _ (arena : List ℕ) (none : NoneHolds (header_refusals arena)) (worker :
   order : Header arena
   order = header_of arena none
 
-  -- before the node records a step writes to the worker's own record alone
-  before_stays : (at : ℕ) → at < nodes_from_of arena → Outside worker at → word later at ≡ word arena at
-  before_stays at before outside =
-      others_stay (with_effect arena step.effect) worker step.worker at outside ∙ effect_before arena step.effect at before
+  -- before the node records a step writes to the worker's own record and the count alone
+  before_stays : (at : ℕ) → at < nodes_from_of arena → at ≢ stored_at → Outside worker at → word later at ≡ word arena at
+  before_stays at before off outside =
+      others_stay (with_changes arena step) worker step.worker at outside ∙ changes_before arena step at before off
 
   -- and the arena stays as long
   long_stays : length later ≡ length arena
   unfolding with_worker
   long_stays =
-      length-sets (with_effect arena step.effect) (worker_from worker) (worker_words step.worker) ∙ effect_long arena step.effect
+      length-sets (with_changes arena step) (worker_from worker) (worker_words step.worker) ∙ changes_long arena step
 
-  -- the header stays
-  pub header_stays : (at : ℕ) → at < header_width → word (stepped_arena arena worker step) at ≡ word arena at
-  header_stays at inside = before_stays at (omega (arith, order.from)) (inl (omega arith))
+  -- the header stays, but for the count
+  pub header_stays : (at : ℕ) → at < header_width → at ≢ stored_at → word (stepped_arena arena worker step) at ≡ word arena at
+  header_stays at inside off = before_stays at (omega (arith, order.from)) off (inl (omega arith))
+
+  count_written : stored_of later ≡ stored_of (with_changes arena step)
+  count_written = others_stay (with_changes arena step) worker step.worker stored_at (inl (omega arith))
 
   -- so it is still in order
   pub none_stays : NoneHolds (header_refusals (stepped_arena arena worker step))
-  none_stays = none_same arena later header_stays (omega (arith, long_stays)) none
+  none_stays = none_same arena later header_stays (omega (arith, long_stays)) (rw count_written (changes_few arena step order fits)) none
+
+  -- and the count is as the step says
+  count_steps : stored_in later ≡ count_after step.growth (stored_in arena)
+  count_steps =
+      (λ i. cond (has_count (others_stay (with_changes arena step) worker step.worker 0 (inl (omega arith)) i)) (Some (count_written i)) None)
+      ∙ changes_count arena step order
 
   module _ (known : worker < workers_of arena) where
     -- the other workers' records stay
@@ -149,19 +162,19 @@ module _ (arena : List ℕ) (none : NoneHolds (header_refusals arena)) (worker :
     unfolding worker_at
     record_stays v there other =
         record_words later v (λ k. word arena (worker_from v + k))
-        (λ k inside. before_stays (worker_from v + k) (omega (arith, order.from))
+        (λ k inside. before_stays (worker_from v + k) (omega (arith, order.from)) (omega arith)
         (elim (dec_lt v worker) [ yes lower ↦ inl (omega arith) | no higher ↦ inr (omega arith) ]))
 
     -- and the worker's own is the step's
     record_steps : worker_at later worker ≡ step.worker
     record_steps =
-        read_back (with_effect arena step.effect) worker step.worker
-        (rw (effect_long arena step.effect) (omega (arith, order.whole, order.from, order.end)))
+        read_back (with_changes arena step) worker step.worker
+        (rw (changes_long arena step) (omega (arith, order.whole, order.from, order.end)))
 
     -- decoded, the workers are as the step says
     worker_steps : (v : ℕ) → (decode later).worker v ≡ (stepped (decode arena) worker step).worker v
     worker_steps v =
-        let workers : workers_of later ≡ workers_of arena = header_stays 1 (omega arith) in
+        let workers : workers_of later ≡ workers_of arena = header_stays 1 (omega arith) (omega arith) in
         elim (ℕ_discrete v worker) [
           | yes same ↦ rw (eq-eqb v worker same, same) (known_record later worker (omega arith) ∙ record_steps)
           | no other ↦ rw (ne_eqb v worker other) (worker_same arena later header_stays v (λ there. record_stays v there other))
@@ -173,15 +186,16 @@ module _ (arena : List ℕ) (none : NoneHolds (header_refusals arena)) (worker :
       unfolding node_from
       field_steps n f room =
           let order_later = header_of later none_stays in
-          let nodes : nodes_of later ≡ nodes_of arena = header_stays 2 (omega arith) in
-          let layout : layout_of later ≡ layout_of arena = header_stays 0 (omega arith) in
+          let nodes : nodes_of later ≡ nodes_of arena = header_stays 2 (omega arith) (omega arith) in
+          let layout : layout_of later ≡ layout_of arena = header_stays 0 (omega arith) (omega arith) in
           elim (dec_lt n (nodes_of arena)) [
             | yes there ↦
                 let inside = field_inside arena n f order there room in
                 field_word later order_later n f (omega arith) (rw layout room)
                 ∙ ap (word later) (place_same arena later header_stays n f)
-                ∙ others_stay (with_effect arena step.effect) worker step.worker (node_from arena n f)
+                ∙ others_stay (with_changes arena step) worker step.worker (node_from arena n f)
                 (inr (omega (arith, order.from)))
+                ∙ growth_off (with_effect arena step.effect) step.growth (node_from arena n f) (omega (arith, order.from))
                 ∙ effect_word arena order step.effect n f below room
                 ∙ ap (word_after step.effect n f) (sym (field_word arena order n f there room))
             | no gone ↦
@@ -194,7 +208,7 @@ module _ (arena : List ℕ) (none : NoneHolds (header_refusals arena)) (worker :
       length_steps : (n : ℕ) → (decode later).length n ≡ (stepped (decode arena) worker step).length n
       unfolding node_at
       length_steps n =
-          ap (λ layout. cond (has_length (node_width layout)) (field_in later n node_length) 0) (header_stays 0 (omega arith))
+          ap (λ layout. cond (has_length (node_width layout)) (field_in later n node_length) 0) (header_stays 0 (omega arith) (omega arith))
           ∙ go (has_length (node_width (layout_of arena))) refl
         where
           go : (lengths : Bool) → has_length (node_width (layout_of arena)) ≡ lengths →
@@ -213,6 +227,7 @@ module _ (arena : List ℕ) (none : NoneHolds (header_refusals arena)) (worker :
             mark = fun_ext (λ n. field_steps n node_mark (omega (arith, wide order.good))) i;
             owner = fun_ext (λ n. field_steps n node_owner (omega (arith, wide order.good))) i;
             length = fun_ext length_steps i;
-            lengths = has_length (node_width (header_stays 0 (omega arith) i));
+            lengths = has_length (node_width (header_stays 0 (omega arith) (omega arith) i));
+            stored = count_steps i;
             worker = fun_ext worker_steps i;
           }

@@ -1,15 +1,15 @@
--- Demand 3: every list of entries from a fresh arena is linearizable, and no turn of it meets 6 or 7.
+-- Demand 3: every list of entries from a fresh arena is linearizable, and no turn of it meets 6, 7 or 14.
 use Prim.Native.Nat.{ℕ, zero, suc, ◌+◌, ◌-◌, ◌≤◌, ◌<◌}
-use mathlib.Core.Path.{◌≡◌, sym, subst, ◌∙◌}
+use mathlib.Core.Path.{◌≡◌, sym, ap, subst, ◌∙◌}
 use mathlib.Core.Logic.{⊎_elim, ◌≢◌, ◌↔◌}
 use mathlib.Core.List.Memᴰ
 use mathlib.Core.List.{List, Memᴰ}
 use mathlib.Core.Bool.{true, true≢false}
-use mathlib.Core.Option as option
 use native.Mathlib.Omega.{arith}
 use Rattle.std.specs.List.{filter}
 use Rattle.worker.specs.declared.refusal.Refusal.{Refusal}
-use Rattle.worker.specs.declared.refusal.Refusal.TheVariants.{NoSuchWorker, BrokenRecord, BrokenChain}
+use Rattle.worker.specs.declared.refusal.Refusal.TheVariants.{NoSuchWorker, BrokenRecord, BrokenChain, BrokenCount}
+use Rattle.worker.specs.Refusals.{refusal_number}
 use Rattle.worker.specs.declared.report.Report.{Report}
 use Rattle.words.specs.Layout.{good_counts}
 use Rattle.words.specs.declared.entry.Entry.{Entry}
@@ -18,34 +18,31 @@ use Rattle.arena.specs.Lists.{Pairs}
 use Rattle.arena.proofs.ListLaws.{from_filter, each_of, pairs_filter, pairs_weaken}
 use Rattle.arena.proofs.SetLaws.{set_rises, set_members}
 use Rattle.linear.specs.Entries.{turn_reported, entry_refused}
-use Rattle.linear.specs.History.{Call, entry_at, arena_at, event_at, calls}
+use Rattle.linear.specs.History.{Call, entry_at, event_at, calls}
 use Rattle.linear.specs.Order.{has_point, rank, in_order, Before}
-use Rattle.linear.specs.Linearizable.{Linearizable, Unbroken, ExactSets, Resting, Waiting}
+use Rattle.linear.specs.Linearizable.{Linearizable, Unbroken, ExactSets, ExactCounts, Resting, Waiting}
 use Rattle.linear.specs.Snapshots.{TrueSnapshots}
 use Rattle.linear.proofs.TimeLaws.{from_times, pairs_mapped}
 use Rattle.linear.proofs.OrderLaws.{from_sorted, sorted_pairs}
 use Rattle.linear.proofs.LabelLaws.{rising_same}
 use Rattle.linear.proofs.Simulation.{Placed, Apart, placed_answer, simulated}
-use Rattle.linear.proofs.Reach.{Reach, here, on, stuck}
 use Rattle.linear.proofs.Bridge.{Entered, refuses, starts, turns}
-use Rattle.linear.proofs.FreshState.{FreshState}
-use Rattle.linear.proofs.Invariant.{In}
 use Rattle.linear.proofs.Members.{whole}
-use Rattle.linear.proofs.Timeline.{sound, Begun, begun_at, label, entered_at, always, Schedule, fresh_schedule, arena, state, last, run_starts_at, run_call_at, calls_of, in_order_of}
+use Rattle.linear.proofs.Timeline.{sound, Begun, begun_at, label, entered_at, always, Schedule, fresh_schedule, arena, last, run_starts_at, run_call_at, calls_of, in_order_of}
 use Rattle.linear.proofs.TrueSnapshots.{all_true}
 use Rattle.linear.proofs.Rests.{all_rest}
-use Rattle.linear.proofs.Keys.{absent_of, not_found}
+use Rattle.linear.proofs.Keys.{empty}
+use Rattle.linear.proofs.Counting.{counts_true, counts_exact}
 use Rattle.linear.proofs.Points.{Fate, fate}
 use Rattle.linear.proofs.Tellings.{Telling, told_answer}
 use Rattle.linear.proofs.Calls.{Told, open_yet, pointed, told, own_points}
 use Rattle.linear.proofs.Waiting.{all_blocked}
 use Rattle.linear.proofs.Openings.{changes}
 
--- no such worker is another refusal than 6 and 7
-other_refusal : {refusal : Refusal} → refusal ≡ NoSuchWorker →
-    (entry_refused refusal ≢ entry_refused BrokenRecord) × (entry_refused refusal ≢ entry_refused BrokenChain)
-other_refusal {refusal} e =
-    (λ same. let six : NoSuchWorker ≡ BrokenRecord = cc in cc, λ same. let seven : NoSuchWorker ≡ BrokenChain = cc in cc)
+-- no such worker is another refusal than these
+other_refusal : {refusal : Refusal} → refusal ≡ NoSuchWorker → (broken : Refusal) → refusal_number broken ≢ 3 → entry_refused refusal ≢ entry_refused broken
+other_refusal {refusal} e broken other same =
+    let told : refusal ≡ broken = cc in other (ap refusal_number (sym told ∙ e))
 
 -- a turn that reports is not refused
 not_refused : (report : Report) (refusal : Refusal) → turn_reported report ≢ entry_refused refusal
@@ -116,22 +113,10 @@ module _ (r : Schedule) where
       (sorted_pairs differ_sym (filter has_point (calls_of r))
       (pairs_filter has_point (pairs_mapped (run_call_at r) (run_starts_at r) Differ 1 (last r) differing)))
 
-  -- a fresh arena's set is empty
-  empty : (key : ℕ) → label r 0 key ≡ option.none
-  unfolding arena_at
-  empty key = not_found r 0 key (absent_of r 0 key (λ i. none i i.chain))
-    where
-      fresh : FreshState (state r 0)
-      fresh = r.fresh
-
-      none : (i : In (state r 0) key) → Reach (state r 0).next 0 i.node → ⊥
-      none i (here e) = i.not_head (sym e)
-      none i (on run) = i.not_tail (stuck fresh.tail_next fresh.head_next run)
-
   -- all of demand 3, of one schedule
   pub proved : Linearizable r.initial r.entries
   proved =
-      let whole = simulated (label r) (last r) (in_order_of r) empty ordered
+      let whole = simulated (label r) (last r) (in_order_of r) (empty r) ordered
       (each_of _ (λ call m. (placed_of (told_of (of_order m).0) (has_point_lem call (of_order m).1)).0))
       (each_of _ (λ call m. (placed_of (told_of (of_order m).0) (has_point_lem call (of_order m).1)).1)) (changes r) in
       record {
@@ -155,16 +140,26 @@ module _ (r : Schedule) where
       answers (open_yet point finish none) = (λ _. point, λ _. none)
       answers (pointed point low high later placed) = (λ none. absurd (placed_answer placed none), λ none. absurd (point none))
 
-  -- no turn meets 6 or 7
+  -- no turn meets 6, 7 or 14
   pub unmet : Unbroken r.initial r.entries
   unfolding event_at
   unmet time turning = go (entered_at r (time - 1) (entry_at r.entries time) (always r (time - 1)))
     where
       go : Entered r.workers r.nodes (arena r (time - 1)) (entry_at r.entries time) →
-          (event_at r.initial r.entries time ≢ entry_refused BrokenRecord) × (event_at r.initial r.entries time ≢ entry_refused BrokenChain)
-      go (refuses number event same unknown) = rw event (other_refusal (unknown turning))
+          (event_at r.initial r.entries time ≢ entry_refused BrokenRecord)
+          × (event_at r.initial r.entries time ≢ entry_refused BrokenChain)
+          × (event_at r.initial r.entries time ≢ entry_refused BrokenCount)
+      go (refuses refusal event same why) =
+          ⊎_elim
+          (λ none_such. rw event (
+            other_refusal none_such BrokenRecord (omega arith),
+            other_refusal none_such BrokenChain (omega arith),
+            other_refusal none_such BrokenCount (omega arith),
+          ))
+          (λ broken. absurd (true≢false (sym broken ∙ counts_true r (time - 1) _)))
+          (why turning)
       go (starts event starting known idle call next) = absurd (true≢false (sym turning ∙ starting))
-      go (turns event turned known next) = rw event (not_refused _ _, not_refused _ _)
+      go (turns event turned known next) = rw event (not_refused _ _, not_refused _ _, not_refused _ _)
 
   -- at every time the chain is whole, and the set is that of document 01's words
   pub sets_exact : ExactSets r.initial r.entries
@@ -176,13 +171,17 @@ pub linearizable : (layout workers nodes : ℕ) (entries : List Entry) → good_
     Linearizable (fresh_words layout workers nodes) entries
 linearizable layout workers nodes entries good = proved (fresh_schedule layout workers nodes entries good)
 
--- no turn of it meets 6 or 7
+-- no turn of it meets 6, 7 or 14
 pub unbroken : (layout workers nodes : ℕ) (entries : List Entry) → good_counts layout workers nodes ≡ true → Unbroken (fresh_words layout workers nodes) entries
 unbroken layout workers nodes entries good = unmet (fresh_schedule layout workers nodes entries good)
 
 -- and at every time its chain is whole, and its set is that of document 01's words
 pub exact_sets : (layout workers nodes : ℕ) (entries : List Entry) → good_counts layout workers nodes ≡ true → ExactSets (fresh_words layout workers nodes) entries
 exact_sets layout workers nodes entries good = sets_exact (fresh_schedule layout workers nodes entries good)
+
+-- and in layout 2 its header counts the labels of the set
+pub exact_counts : (layout workers nodes : ℕ) (entries : List Entry) → good_counts layout workers nodes ≡ true → ExactCounts (fresh_words layout workers nodes) entries
+exact_counts layout workers nodes entries good = counts_exact (fresh_schedule layout workers nodes entries good)
 
 -- and an idle worker has the idle record
 pub resting : (layout workers nodes : ℕ) (entries : List Entry) → good_counts layout workers nodes ≡ true → Resting (fresh_words layout workers nodes) entries

@@ -7,7 +7,7 @@ use native.Mathlib.Omega.{arith}
 use lib.Dec.{eqb}
 use borrow.Author.Tests.{eqb-false}
 use Rattle.worker.specs.Worker.{add, remove, contains, is_key, within}
-use Rattle.worker.specs.Stages.{with_curr, reports, changed, goes, to, with_stage, with_answer}
+use Rattle.worker.specs.Stages.{with_curr, reports, changed, goes, growing, to, with_stage, with_answer}
 use Rattle.worker.specs.Turn.{belongs}
 use Rattle.worker.specs.declared.Worker.{Worker}
 use Rattle.worker.specs.declared.report.Report.{Report}
@@ -15,6 +15,8 @@ use Rattle.worker.specs.declared.report.Report.TheVariants.{Moved, Waits}
 use Rattle.worker.specs.declared.report.Step.{Step}
 use Rattle.worker.specs.declared.report.Effect.{Effect}
 use Rattle.worker.specs.declared.report.Effect.TheVariants.{SetOwner}
+use Rattle.worker.specs.declared.report.Growth.{Growth}
+use Rattle.worker.specs.declared.report.Growth.TheVariants.{Stays}
 use Rattle.worker.proofs.Laws.{range_bounds, in_range}
 use Rattle.linear.specs.Entries.{is_finished, turn_reported}
 use Rattle.linear.specs.History.{is_decision}
@@ -24,7 +26,7 @@ use Rattle.linear.proofs.Invariant.{Ahead, Inv, Range, key_range, sane_at}
 use Rattle.linear.proofs.Effects.{Known, old, Act, quiet, owns, Fills}
 use Rattle.linear.proofs.After.{Places}
 use Rattle.linear.proofs.Changes.{Keeps}
-use Rattle.linear.proofs.Course.{spot, Continues, Verdict, goes_on, settles, Row}
+use Rattle.linear.proofs.Course.{spot, Continues, Verdict, goes_on, settles, Grows, as_kept, Row}
 
 -- the three parts of a record's test
 pub parts : (a b c : Bool) → a && b && c ≡ true → (a ≡ true) × (b ≡ true) × (c ≡ true)
@@ -66,9 +68,9 @@ module _ {nodes : ℕ} {s : State} (inv : Inv nodes s) (me : ℕ) where
   spare_known = old (in_spare refl)
 
   -- a record whose three numbers are known, where no node is filled
-  pub steps : {e : Effect} (new : Worker) (report : Report) → ((m : ℕ) → Fills e m → ⊥) →
+  pub steps : {e : Effect} {growth : Growth} (new : Worker) (report : Report) → ((m : ℕ) → Fills e m → ⊥) →
       Known nodes s me new.pred → Known nodes s me new.curr → Known nodes s me new.spare →
-      Places nodes s me (record { worker = new; report = report; effect = e })
+      Places nodes s me (record { worker = new; report = report; effect = e; growth = growth })
   steps {e} new report unfilled p c q = record { known = λ m h. inl (known m h); fresh = λ m f. absurd (unfilled m f) }
     where
       known : (m : ℕ) → Holds new m → Known nodes s me m
@@ -96,15 +98,16 @@ module _ {nodes : ℕ} {s : State} (inv : Inv nodes s) (me : ℕ) where
 
   -- a turn that decides nothing, with its report
   pub goes_row : {n : ℕ} → w.stage ≡ n → (new : Worker) (report : Report) {e : Effect} (act : Act nodes s me e) → Keeps act →
-      Places nodes s me (record { worker = new; report = report; effect = e }) →
-      Promised (record { worker = new; report = report; effect = e }) → Sane new →
+      Places nodes s me (record { worker = new; report = report; effect = e; growth = Stays }) →
+      Promised (record { worker = new; report = report; effect = e; growth = Stays }) → Sane new →
       Continues w new → eqb new.answer 0 ≡ eqb w.answer 0 → is_decision n new.answer ≡ false →
       is_finished (turn_reported report) ≡ false →
       (22 ≤ new.stage → (22 ≤ n) × (Ahead s (cond (eqb n 22) 0 w.curr) w.key → Ahead s (spot new) w.key)) →
-      Row nodes s me (record { worker = new; report = report; effect = e })
+      Row nodes s me (record { worker = new; report = report; effect = e; growth = Stays })
   goes_row at new report act keeps placed promise good continues same silent unfinished onward =
       record {
         act = act;
+        grows = as_kept keeps refl;
         placed = placed;
         standing = record { promise = promise; sane_record = λ busy. good };
         course =
@@ -177,13 +180,15 @@ module _ {nodes : ℕ} {s : State} (inv : Inv nodes s) (me : ℕ) where
 
   -- a turn that decides the answer
   pub settles_row : {n : ℕ} → w.stage ≡ n → (m answer : ℕ) {e : Effect} (act : Act nodes s me e) → ((k : ℕ) → Fills e k → ⊥) →
-      Promised (goes (with_answer w answer) m e) → Sane (with_stage (with_answer w answer) m) →
+      {growth : Growth} → Grows act growth →
+      Promised (growing (goes (with_answer w answer) m e) growth) → Sane (with_stage (with_answer w answer) m) →
       Verdict act (with_stage (with_answer w answer) m) → within 1 21 m ≡ true →
-      w.answer ≡ 0 → answer ≢ 0 → is_decision n answer ≡ true → Row nodes s me (goes (with_answer w answer) m e)
-  settles_row at m answer act unfilled promise good verdict early undecided decided settled =
+      w.answer ≡ 0 → answer ≢ 0 → is_decision n answer ≡ true → Row nodes s me (growing (goes (with_answer w answer) m e) growth)
+  settles_row at m answer act unfilled grows promise good verdict early undecided decided settled =
       let bounds = range_bounds 1 21 m early in
       record {
         act = act;
+        grows = grows;
         placed = steps _ _ unfilled pred_known curr_known spare_known;
         standing = record { promise = promise; sane_record = λ busy. good };
         course =

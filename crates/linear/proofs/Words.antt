@@ -1,16 +1,16 @@
 -- A field of a node as a word of an arena, and what an effect makes of it.
 use Prim.Native.Nat.{ℕ, ◌+◌, ◌*◌, ◌-◌, ◌≤◌, ◌<◌}
-use mathlib.Core.Path.{◌≡◌, refl, ap, ◌∙◌}
+use mathlib.Core.Path.{◌≡◌, refl, ◌∙◌}
 use mathlib.Core.List.{List, [], ◌∷◌}
 use mathlib.Core.Bool.{Bool, true, false, cond}
 use native.Mathlib.Omega.{arith}
 use native.Mathlib.Nat.{mul-le-mul_left}
 use native.Mathlib.Decide.{ℕ_discrete}
 use lib.ListN.{length, drop, set, length-take, get_or-eq_default}
-use lib.Seq.{sets, length-sets, get_or-take, get_or-drop, get_or-set_same, get_or-set_other}
+use lib.Seq.{sets, get_or-take, get_or-drop, get_or-set_same, get_or-set_other}
 use lib.Dec.{eqb}
 use borrow.Author.Tests.{eq-eqb, ne_eqb}
-use Rattle.worker.specs.Node.{head, new_node}
+use Rattle.worker.specs.Node.{new_node}
 use Rattle.worker.specs.declared.Node.{Node}
 use Rattle.worker.specs.declared.report.Effect.{Effect}
 use Rattle.worker.specs.declared.report.Effect.TheVariants.{Nothing, SetOwner, SetNext, SetMark, Fill}
@@ -29,28 +29,6 @@ use Rattle.linear.proofs.State.{word_after, length_after}
 -- a field of a node, read from the node records
 abbrev pub field_in : List ℕ → ℕ → ℕ → ℕ
 field_in arena node field = word (node_part arena) (slot (node_width (layout_of arena)) node field)
-
--- an effect writes a run of words, from a field of a node on
-effect_run : (arena : List ℕ) (e : Effect) →
-    (node : ℕ) × (field : ℕ) × (values : List ℕ) × (with_effect arena e ≡ sets arena (node_from arena node field) values)
-unfolding with_effect with_node
-effect_run arena Nothing = (head, node_key, [], refl)
-effect_run arena (SetOwner node owner) = (node, node_owner, owner ∷ [], refl)
-effect_run arena (SetNext node next) = (node, node_next, next ∷ [], refl)
-effect_run arena (SetMark node) = (node, node_mark, 1 ∷ [], refl)
-effect_run arena (Fill node key next length) = (node, node_key, node_words (node_width (layout_of arena)) (new_node key next length), refl)
-
--- so the arena is as long as before
-pub effect_long : (arena : List ℕ) (e : Effect) → length (with_effect arena e) ≡ length arena
-effect_long arena e = let run = effect_run arena e in ap length run.3 ∙ length-sets arena _ run.2
-
--- and what stands before the node records stays
-pub effect_before : (arena : List ℕ) (e : Effect) (at : ℕ) → at < nodes_from_of arena → word (with_effect arena e) at ≡ word arena at
-unfolding node_from
-effect_before arena e at before =
-    let run = effect_run arena e in
-    ap (λ (words : List ℕ). word words at) run.3
-    ∙ sets_outside run.2 arena (node_from arena run.0 run.1) at (λ k h same. omega arith)
 
 module _ (arena : List ℕ) (header : Header arena) where
   -- a field of a node that there is stands in its place of the arena

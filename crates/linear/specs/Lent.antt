@@ -7,7 +7,7 @@ use Rattle.words.specs.declared.entry.Entry.{Entry}
 use Rattle.arena.specs.Init.{fresh_words, init_answer, init_arena}
 use Rattle.linear.specs.Entries.{event_of, after}
 use Rattle.linear.specs.History.{arena_at, event_at}
-use Rattle.linear.specs.Linearizable.{Linearizable, Unbroken, ExactSets, Resting, Waiting}
+use Rattle.linear.specs.Linearizable.{Linearizable, Unbroken, ExactSets, ExactCounts, Resting, Waiting}
 use Rattle.linear.specs.Snapshots.{TrueSnapshots}
 
 -- further words behind an arena: an entry does not look at them, and they stay
@@ -29,6 +29,7 @@ pub record AsFresh (lent : List ℕ) (layout workers nodes : ℕ) (entries : Lis
   pub linearizable : Linearizable (init_arena lent layout workers nodes) entries
   pub unbroken : Unbroken (init_arena lent layout workers nodes) entries
   pub exact_sets : ExactSets (init_arena lent layout workers nodes) entries
+  pub exact_counts : ExactCounts (init_arena lent layout workers nodes) entries
   pub resting : Resting (init_arena lent layout workers nodes) entries
   pub waiting : Waiting (init_arena lent layout workers nodes) entries
   pub true_snapshots : TrueSnapshots (init_arena lent layout workers nodes) entries

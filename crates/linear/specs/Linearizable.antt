@@ -1,16 +1,18 @@
 -- Demand 3, one field for each of its sentences.
 use Rattle.std.specs.Prelude.{ℕ, suc, ◌≤◌, ◌<◌, ◌≡◌, ◌≢◌, ◌↔◌, ◌⊎◌, true, length, get_or}
-use mathlib.Core.List.{List, [], Memᴰ, map}
+use mathlib.Core.List.{List, [], ◌∷◌, Memᴰ, map}
 use Rattle.worker.specs.Worker.{idle_stage, idle_worker}
-use Rattle.worker.specs.declared.refusal.Refusal.TheVariants.{BrokenRecord, BrokenChain}
+use Rattle.worker.specs.declared.refusal.Refusal.TheVariants.{BrokenRecord, BrokenChain, BrokenCount}
 use Rattle.worker.specs.Report.{answer_number}
 use Rattle.worker.specs.declared.report.Answer.{Answer}
 use Rattle.worker.specs.declared.report.Report.TheVariants.{Finished}
-use Rattle.words.specs.Layout.{workers_of}
+use Rattle.words.specs.Layout.{layout2, layout_of, workers_of, stored_of}
 use Rattle.words.specs.Records.{worker_at}
+use Rattle.words.specs.Replies.{accepted}
 use Rattle.words.specs.declared.entry.Entry.{Entry}
 use Rattle.arena.specs.declared.chain.Label.{Label}
 use Rattle.arena.specs.Sets.{node_in, ChainWhole, set_of, InSet}
+use Rattle.arena.specs.Stored.{stored_answer}
 use Rattle.linear.specs.Entries.{is_turn, turn_reported, entry_refused}
 use Rattle.linear.specs.History.{Call, Wait, entry_at, arena_at, event_at, calls, waits}
 use Rattle.linear.specs.Order.{in_order}
@@ -43,11 +45,13 @@ module _ (initial : List ℕ) (entries : List Entry) where
     -- the sequential set holds exactly the arena's set, and each node of the set the length of the add that put its key there
     pub same_labels : labels_after [] (in_order initial entries) ≡ set_of (arena_at initial entries (length entries))
 
-  -- beside it: no turn from a fresh arena meets 6 or 7
+  -- beside it: no turn from a fresh arena meets 6, 7 or 14
   abbrev pub Unbroken : Type 0
   Unbroken =
       (time : ℕ) → is_turn (entry_at entries time) ≡ true →
-      (event_at initial entries time ≢ entry_refused BrokenRecord) × (event_at initial entries time ≢ entry_refused BrokenChain)
+      (event_at initial entries time ≢ entry_refused BrokenRecord)
+      × (event_at initial entries time ≢ entry_refused BrokenChain)
+      × (event_at initial entries time ≢ entry_refused BrokenCount)
 
   -- and at every time the chain is whole, and the labels of the set are those of document 01's words
   abbrev pub ExactSets : Type 0
@@ -55,6 +59,13 @@ module _ (initial : List ℕ) (entries : List Entry) where
       (time : ℕ) →
       ChainWhole (arena_at initial entries time)
       × ((label : Label) → Memᴰ label (set_of (arena_at initial entries time)) ↔ InSet (arena_at initial entries time) label)
+
+  -- and in layout 2 the header's count is the size of the set, and is what `stored` answers (document 02, A6)
+  abbrev pub ExactCounts : Type 0
+  ExactCounts =
+      (time : ℕ) → layout_of (arena_at initial entries time) ≡ layout2 →
+      (stored_of (arena_at initial entries time) ≡ length (set_of (arena_at initial entries time)))
+      × (stored_answer (arena_at initial entries time) ≡ accepted (length (set_of (arena_at initial entries time)) ∷ []))
 
   -- and an idle worker has the idle record, so it keeps no node from being free
   abbrev pub Resting : Type 0
