@@ -47,11 +47,12 @@ static unsigned length_of(uint16_t key) {
     return node[4];
 }
 
+/* How many labels are stored, which the header tells, and which they are, for which the chain is walked. */
 static void print_labels(void) {
     uint16_t keys[NODES - 2];
     uint64_t reply = lazy_list_snapshot(arena, arena_length, keys, sizeof keys / sizeof *keys);
 
-    printf("stored:");
+    printf("stored %u:", (unsigned)LAZY_LIST_VALUE(lazy_list_stored(arena, arena_length)));
     for (size_t i = 0; i < LAZY_LIST_VALUE(reply); i++)
         printf(" %u (length %u)", (unsigned)keys[i], length_of(keys[i]));
     printf("\n");

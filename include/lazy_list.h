@@ -11,13 +11,15 @@
  * stack, and of the C library wants memset and memcpy alone.
  *
  * The arena for W workers (1 to 8) and N nodes (3 to 1,024), its words counted from 0, in one of two layouts:
- *   header, 8 words    layout (1 or 2), W, N, place of the worker records (8), place of the node records (8 + 8 W), total, 0, 0;
- *                      the total is 8 + 8 W + 4 N in layout 1 and 8 + 8 W + 5 N in layout 2
+ *   header, 8 words    layout (1 or 2), W, N, place of the worker records (8), place of the node records (8 + 8 W), total, count, 0;
+ *                      the total is 8 + 8 W + 4 N in layout 1 and 8 + 8 W + 5 N in layout 2; the count is, in layout 2, how many
+ *                      labels are stored, at most N less 2, and 0 in layout 1
  *   worker, 8 words    stage (0 to 25), operation (0 none), key, pred, curr, spare, answer (0 none), length of the label that an open call
  *                      adds (else 0); pred, curr and spare are nodes
  *   node, 4 or 5 words key, next, mark (0 unmarked, anything else marked), owner (0 nobody, otherwise worker + 1), and in layout 2 the
  *                      length of the label: 0 on a fresh arena, then that of the last add that took the node, also once it is removed
  * Node 0 is Head, node 1 is Tail, and 65,535 is no node. Words past the total are never touched.
+ * An arena of layout 2 from before the header had a count has 0 there, whatever it stores: it is to be laid anew.
  *
  * A reply is one number. Its lowest byte is 0, or the number of a refusal and then the whole reply; above it stand the report of a turn, one
  * byte, and up to two values, 16 bits each.
@@ -32,15 +34,16 @@
 extern "C" {
 #endif
 
-/* Words of an arena of layout 1 or 2; and no node. */
+/* Words of an arena of layout 1 or 2; no node; and no count. */
 #define LAZY_LIST_WORDS(layout, workers, nodes) (8 + 8 * (size_t)(workers) + ((layout) == 1 ? 4 : 5) * (size_t)(nodes))
 #define LAZY_LIST_NO_NODE 65535u
+#define LAZY_LIST_NO_COUNT 65535u
 
 /* Refusals: the first that applies, in the order given at each function. */
 enum lazy_list_refusal {
     LAZY_LIST_ACCEPTED = 0,
     LAZY_LIST_SHORT_ARENA = 1,    /* fewer than 8 words, or than word 5 says; in init and run, fewer than layout and counts need */
-    LAZY_LIST_ODD_HEADER = 2,     /* the first 8 words are not the header of some layout, W and N */
+    LAZY_LIST_ODD_HEADER = 2,     /* the first 8 words are not the header of some layout, W, N and count */
     LAZY_LIST_NO_SUCH_WORKER = 3, /* a worker number of W or more */
     LAZY_LIST_BUSY = 4,           /* the worker has a call that is not finished */
     LAZY_LIST_BAD_CALL = 5,       /* an operation that is not 1 to 3, key or last cell 0 or 65,535, or a length that the call may not have */
@@ -49,7 +52,8 @@ enum lazy_list_refusal {
     LAZY_LIST_NO_ROOM = 8,        /* too few words lent for the keys, the calls or the waits */
     LAZY_LIST_BAD_SCHEDULE = 9,   /* a number of words that is no multiple of 4, or above 16,000 */
     LAZY_LIST_BAD_COUNTS = 10,    /* a layout that is not 1 or 2, or W or N out of range */
-    LAZY_LIST_LENGTHS_MISSING = 13 /* an arena of layout 1, whose labels have no lengths */
+    LAZY_LIST_LENGTHS_MISSING = 13, /* an arena of layout 1, whose labels have no lengths */
+    LAZY_LIST_BROKEN_COUNT = 14   /* a turn that would store a label on a count of N less 2, or take one away from a count of 0 */
 };
 
 /* Operations of a call; keys are 1 to 65,534. */
@@ -60,8 +64,9 @@ enum lazy_list_report { LAZY_LIST_IDLE = 0, LAZY_LIST_MOVED = 1, LAZY_LIST_WAITS
 enum lazy_list_answer { LAZY_LIST_YES = 1, LAZY_LIST_NO = 2, LAZY_LIST_FULL = 3 };
 
 /* Read a reply: its refusal, or 0; of an accepted turn the report. The first value is the stage moved to, the answer finished with, the
- * node waited for, the count of a snapshot's keys, the node that find_free found, or the first cell of the longest free run; the second is
- * the worker that a turn waits for, the next words that find_free read, or the length of that run. What a reply does not have is 0. */
+ * node waited for, the count of a snapshot's keys or of the stored labels, the node that find_free found, or the first cell of the longest
+ * free run; the second is the worker that a turn waits for, the next words that find_free read, or the length of that run. What a reply
+ * does not have is 0. */
 #define LAZY_LIST_REFUSAL(reply) ((reply) % 256u)
 #define LAZY_LIST_REPORT(reply) ((reply) / 256u % 256u)
 #define LAZY_LIST_VALUE(reply) ((reply) / 65536u % 65536u)
@@ -77,8 +82,9 @@ uint64_t lazy_list_start(uint16_t *arena, size_t arena_length, uint16_t worker, 
                          uint16_t label_length);
 
 /* Gives a worker one turn: one step of its call, seen by all. A call is finished by the turn that reports LAZY_LIST_FINISHED. A turn that
- * waits changes nothing; it names the node it wants and the worker in the way, the node's owner word less 1. Refused with 1, 2, 3, 6, 7.
- * On an arena that init has laid and only start and turn have written it is never refused with 6 or 7, and the worker in the way is
+ * waits changes nothing; it names the node it wants and the worker in the way, the node's owner word less 1. In layout 2 the turn that
+ * links a label in (stage 15) adds one to the count, and the one that marks it (stage 16) takes one away. Refused with 1, 2, 3, 6, 7, 14.
+ * On an arena that init has laid and only start and turn have written it is never refused with 6, 7 or 14, and the worker in the way is
  * another, busy one, which must move on first. */
 uint64_t lazy_list_turn(uint16_t *arena, size_t arena_length, uint16_t worker);
 
@@ -92,6 +98,11 @@ uint64_t lazy_list_find_free(const uint16_t *arena, size_t arena_length);
  * N less 2 keys is enough, and a contains that an idle worker starts then, and that alone gets turns until it finishes, answers yes exactly
  * if its key is listed. */
 uint64_t lazy_list_snapshot(const uint16_t *arena, size_t arena_length, uint16_t *keys, size_t keys_length);
+
+/* How many labels are stored: the header's count, in layout 2; LAZY_LIST_NO_COUNT in layout 1, which keeps none. One word is read, and no
+ * chain walked. On an arena of layout 2 that init has laid and only start and turn have written it is at every time the number of keys that
+ * a snapshot lists. Nothing is written. Refused with 1, 2. */
+uint64_t lazy_list_stored(const uint16_t *arena, size_t arena_length);
 
 /* Where a long label fits: the first cell and the length of the longest run of cells from 1 to the last, which is 1 to 65,534, that lie in
  * no label of the set; of equal runs the one that begins lowest, and 0 and 0 where no cell is free. A label covers the cells from its key

@@ -29,9 +29,9 @@ use Rattle.arena.specs.Start.{start_refusals, start_arena}
 use Rattle.arena.specs.Snapshot.{keys_of, Listed}
 use Rattle.arena.proofs.FreshLaws.{fresh_length}
 use Rattle.lazy.specs.Turn.{turn_on, turned_arena, turn_arena}
+use Rattle.lazy.proofs.ChangeLaws.{changes_long}
 use Rattle.linear.specs.Entries.{is_turn, after}
 use Rattle.linear.specs.History.{arena_at, totals}
-use Rattle.linear.proofs.Words.{effect_long}
 use Rattle.linear.proofs.Timeline.{fresh_schedule, Schedule, last, arena, entry}
 use Rattle.schedule.specs.declared.Call.{Call}
 use Rattle.schedule.specs.declared.Wait.{Wait}
@@ -56,7 +56,7 @@ judged_length (r ∷ rs) before after same = grind (arith, nat_tests, judged_len
 
 turned_length : (words : List ℕ) (worker : ℕ) (t : Result Step Refusal) → length (turned_arena words worker t) ≡ length words
 unfolding with_worker
-turned_length words worker (Ok step) = rw length-sets (effect_long words step.effect)
+turned_length words worker (Ok step) = rw length-sets (changes_long words step)
 turned_length words worker (Err refusal) = refl
 
 after_length : (words : List ℕ) (x : Entry) → length (after words x) ≡ length words

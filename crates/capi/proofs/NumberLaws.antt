@@ -7,7 +7,7 @@ use Rattle.std.specs.Prelude.{Result, Ok, Err}
 use Rattle.worker.specs.Refusals.{Test}
 use Rattle.worker.specs.Report.{report_values}
 use Rattle.worker.specs.declared.refusal.Refusal.{Refusal}
-use Rattle.worker.specs.declared.refusal.Refusal.TheVariants.{ShortArena, OddHeader, NoSuchWorker, Busy, BadCall, BrokenRecord, BrokenChain, NoRoom, BadSchedule, BadCounts, LengthsMissing}
+use Rattle.worker.specs.declared.refusal.Refusal.TheVariants.{ShortArena, OddHeader, NoSuchWorker, Busy, BadCall, BrokenRecord, BrokenChain, NoRoom, BadSchedule, BadCounts, LengthsMissing, BrokenCount}
 use Rattle.worker.proofs.RefusalLaws.{judged_keeps}
 use Rattle.words.specs.Replies.{Reply, refused, accepted, refusing, reply, no_values, replied}
 use Rattle.words.specs.Header.{header_refusals}
@@ -16,6 +16,7 @@ use Rattle.words.specs.Entries.{entries_of}
 use Rattle.arena.specs.Init.{fresh_words, init_refusals, init_answer}
 use Rattle.arena.specs.Start.{start_refusals, start_answer}
 use Rattle.arena.specs.Snapshot.{snapshot_refusals, snapshot_answer}
+use Rattle.arena.specs.Stored.{stored_answer}
 use Rattle.lazy.specs.FindFree.{find_free_answer}
 use Rattle.lazy.specs.Turn.{outcome_of, turn_on, turn_answer}
 use Rattle.free_cells.specs.LongestFreeRun.{longest_free_run_refusals, longest_free_run_answer}
@@ -61,6 +62,7 @@ refusal_readable NoRoom = (omega arith, omega arith, omega arith)
 refusal_readable BadSchedule = (omega arith, omega arith, omega arith)
 refusal_readable BadCounts = (omega arith, omega arith, omega arith)
 refusal_readable LengthsMissing = (omega arith, omega arith, omega arith)
+refusal_readable BrokenCount = (omega arith, omega arith, omega arith)
 
 accepted_readable : (values : List ℕ) → Readable (accepted values)
 accepted_readable values = omega arith
@@ -102,6 +104,10 @@ module _ (arena : List ℕ) where
   pub find_free_readable : Readable (unreported (find_free_answer arena))
   unfolding find_free_answer
   find_free_readable = unreported_readable (find_free_answer arena) (replied_readable (header_refusals arena) _)
+
+  pub stored_readable : Readable (unreported (stored_answer arena))
+  unfolding stored_answer
+  stored_readable = unreported_readable (stored_answer arena) (replied_readable (header_refusals arena) _)
 
   pub longest_free_run_readable : (last : ℕ) → Readable (unreported (longest_free_run_answer arena last))
   unfolding longest_free_run_answer

@@ -8,6 +8,7 @@ ghost use Rattle.words.specs.Entries.{entries_of};
 ghost use Rattle.arena.specs.Init.{fresh_words, init_answer, init_arena};
 ghost use Rattle.arena.specs.Start.{start_answer, start_arena};
 ghost use Rattle.arena.specs.Snapshot.{snapshot_answer, snapshot_words};
+ghost use Rattle.arena.specs.Stored.{stored_answer};
 ghost use Rattle.lazy.specs.FindFree.{find_free_answer};
 ghost use Rattle.lazy.specs.Turn.{turn_answer, turn_arena};
 ghost use Rattle.free_cells.specs.LongestFreeRun.{longest_free_run_answer};
@@ -74,6 +75,16 @@ pub extern "C" fn lazy_list_snapshot(arena: &[u16], keys: &mut [u16]) -> u64
     ensures words { keys.new ≡ snapshot_words arena.now keys.old }
 {
     number(arena::snapshot(arena, keys))
+}
+
+// How many labels are stored, in layout 2.
+#[tactic(auto, using(crate::proofs::NumberLaws::told_unreported))]
+#[unsafe(no_mangle)]
+pub extern "C" fn lazy_list_stored(arena: &[u16]) -> u64
+    ensures number { result ≡ reply_number (unreported (stored_answer arena.now)) }
+    ensures read { Reads result (unreported (stored_answer arena.now)) }
+{
+    number(arena::stored(arena))
 }
 
 // The longest run of cells from 1 to the last one that lie in no label of the set.

@@ -1,8 +1,9 @@
 // Answers as one number.
 ghost use Rattle.std.specs.Prelude.{◌≡◌, [], ◌∷◌, List, ℕ};
 ghost use Rattle.worker.specs.Report.{answer_number, report_values};
-ghost use Rattle.words.specs.Replies.{accepted, no_values, reply};
-ghost use Rattle.lazy.specs.FindFree.{found_values, free_number};
+ghost use Rattle.words.specs.Replies.{accepted, no_values, or_none, reply};
+ghost use Rattle.arena.specs.Stored.{stored_values};
+ghost use Rattle.lazy.specs.FindFree.{found_values};
 ghost use Rattle.free_cells.specs.LongestFreeRun.{run_values};
 ghost use Rattle.capi.specs.Number.{reply_number, Reads, Fitting};
 
@@ -54,18 +55,21 @@ impl Told for u16 {
     }
 }
 
+// The count of stored labels, if there is one.
+impl Told for Option<u16> {
+    ghost values = { λ stored. 0 ∷ stored_values stored };
+
+    fn number(self) -> u64 {
+        FIRST * (or_none(self) as u64)
+    }
+}
+
 impl Told for Found {
     ghost values = { λ found. 0 ∷ found_values found };
 
     fn number(self) -> u64 {
-        FIRST * (of_free(self.free) as u64) + SECOND * (self.reads as u64)
+        FIRST * (or_none(self.free) as u64) + SECOND * (self.reads as u64)
     }
-}
-
-fn of_free(free: Option<u16>) -> u16
-    ensures { result ≡ free_number free }
-{
-    free.unwrap_or(Node::NONE)
 }
 
 impl Told for FreeRun {
@@ -89,4 +93,10 @@ impl Told for Report {
             Report::Finished(answer) => 3 * REPORT + FIRST * (u16::from(answer) as u64),
         }
     }
+}
+
+fn or_none(number: Option<u16>) -> u16
+    ensures { result ≡ or_none number }
+{
+    number.unwrap_or(Node::NONE)
 }

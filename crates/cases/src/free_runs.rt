@@ -50,7 +50,7 @@ pub fn refusals(out: &mut Out) -> fmt::Result {
     run_on(out, "free run, 45 words, up to 0", first(&mut arena, 45), 0)?;
     for (text, at, word, last) in [
         ("free run, 3 of 2, 8 of 1, up to 9", 6, 0, 9),
-        ("free run, header word 6 is 1, up to 0", 6, 1, 0),
+        ("free run, header word 6 is 5, up to 0", 6, 5, 0),
         ("free run, up to 0", 6, 0, 0),
         ("free run, up to 65535", 6, 0, 65535),
         ("free run, key 8 is 3, up to 65535", 31, 3, 65535),

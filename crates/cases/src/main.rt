@@ -1,10 +1,11 @@
 // Runs what the starred cases leave out: on layout 1 the limits of the counts, damaged headers, records and chains, a turn at each stage,
-// and nodes used again; on layout 2 lengths, and the longest run of free cells. What it prints is held to the stored output, which was worked out
-// from documents 01 and 02.
+// and nodes used again; on layout 2 lengths, the longest run of free cells, and the count of stored labels. What it prints is held to the
+// stored output, which was worked out from documents 01 and 02.
 #![tactic(auto)]
 
 mod calls;
 mod circles;
+mod counts;
 mod damage;
 mod free_runs;
 mod fresh;
@@ -48,5 +49,8 @@ fn all(out: &mut Out) -> fmt::Result {
     labels::written(out)?;
     free_runs::one_label(out)?;
     free_runs::more_labels(out)?;
-    free_runs::refusals(out)
+    free_runs::refusals(out)?;
+    counts::kept(out)?;
+    counts::ends(out)?;
+    counts::told(out)
 }

@@ -1,24 +1,26 @@
 -- One table for the starred cases of document 01, "Small boards", which are of layout 1, and some of document 02: a row
 -- lends words, makes some calls, asks one thing more, and says what is replied.
-use Rattle.std.specs.Prelude.{ℕ, zero, suc, List, [], ◌∷◌, ◌++◌, replicate}
+use Rattle.std.specs.Prelude.{ℕ, zero, suc, ◌+◌, List, [], ◌∷◌, ◌++◌, replicate, set}
 use Rattle.worker.specs.Node.{head, no_node}
 use Rattle.worker.specs.Worker.{add, remove, contains}
-use Rattle.worker.specs.declared.refusal.Refusal.TheVariants.{ShortArena, OddHeader, Busy, BadCall, NoRoom, BadCounts, LengthsMissing}
+use Rattle.worker.specs.declared.refusal.Refusal.TheVariants.{ShortArena, OddHeader, Busy, BadCall, BrokenRecord, NoRoom, BadCounts, LengthsMissing, BrokenCount}
 use Rattle.worker.specs.Report.{report_values}
 use Rattle.worker.specs.declared.report.Answer.TheVariants.{Yes, No}
 use Rattle.worker.specs.declared.report.Report.{Report}
-use Rattle.worker.specs.declared.report.Report.TheVariants.{Idle, Waits, Finished}
-use Rattle.words.specs.Layout.{word, layout1, layout2}
+use Rattle.worker.specs.declared.report.Report.TheVariants.{Idle, Moved, Waits, Finished}
+use Rattle.words.specs.Layout.{word, worker_from, worker_stage, worker_operation, layout1, layout2, stored_at}
 use Rattle.words.specs.Replies.{Reply, accepted, refusing}
 use Rattle.arena.specs.Init.{init_answer, init_arena}
 use Rattle.arena.specs.Start.{start_answer, start_arena}
 use Rattle.arena.specs.Snapshot.{snapshot_answer}
+use Rattle.arena.specs.Stored.{stored_answer}
 use Rattle.lazy.specs.FindFree.{find_free_answer}
 use Rattle.lazy.specs.Turn.{turn_answer, turn_arena}
 use Rattle.free_cells.specs.LongestFreeRun.{longest_free_run_answer}
 
 -- what is asked of an arena: init with layout, W and N, a start with worker, operation, key and length, so many turns of a worker, a
--- snapshot with so much room, the lowest free node, the longest free run up to a last cell, or the word at a place
+-- snapshot with so much room, the lowest free node, the longest free run up to a last cell, the count of stored labels, or the word at a place;
+-- or another word is written there
 pub data Ask : Type 0 where
   init : ℕ → ℕ → ℕ → Ask
   start : ℕ → ℕ → ℕ → ℕ → Ask
@@ -26,7 +28,9 @@ pub data Ask : Type 0 where
   list : ℕ → Ask
   search : Ask
   longest : ℕ → Ask
+  size : Ask
   look : ℕ → Ask
+  write : ℕ → ℕ → Ask
 
 abbrev pub after_turns : List ℕ → ℕ → ℕ → List ℕ
 after_turns arena worker zero = arena
@@ -45,7 +49,9 @@ reply_to arena (turns worker count) = last_reply arena worker count
 reply_to arena (list room) = snapshot_answer arena room
 reply_to arena search = find_free_answer arena
 reply_to arena (longest last) = longest_free_run_answer arena last
+reply_to arena size = stored_answer arena
 reply_to arena (look at) = accepted (word arena at ∷ [])
+reply_to arena (write at value) = accepted []
 
 -- and the arena afterwards
 abbrev pub arena_after : List ℕ → Ask → List ℕ
@@ -55,7 +61,9 @@ arena_after arena (turns worker count) = after_turns arena worker count
 arena_after arena (list room) = arena
 arena_after arena search = arena
 arena_after arena (longest last) = arena
+arena_after arena size = arena
 arena_after arena (look at) = arena
+arena_after arena (write at value) = set arena at value
 
 abbrev pub arena_after_all : List ℕ → List Ask → List ℕ
 arena_after_all arena [] = arena
@@ -96,6 +104,13 @@ labelled = small2 ∷ start 0 add 5 3 ∷ turns 0 14 ∷ []
 
 abbrev pub unlabelling : ℕ → List Ask
 unlabelling count = labelled ++ start 0 remove 5 0 ∷ turns 0 count ∷ []
+
+-- with another count, after so many turns of that add, and of that remove
+abbrev pub adding_on : ℕ → ℕ → List Ask
+adding_on stored turn = small2 ∷ start 0 add 5 3 ∷ turns 0 turn ∷ write stored_at stored ∷ []
+
+abbrev pub removing_on : ℕ → ℕ → List Ask
+removing_on stored turn = unlabelling turn ++ write stored_at stored ∷ []
 
 -- two adds on an empty set: worker 0 has taken pred, and worker 1 wants it
 abbrev pub two_adds : List Ask
@@ -175,4 +190,28 @@ cases =
     ∷ row 31 (small2 ∷ []) (longest 65535) (refusing BadCall)
     ∷ row 28 (small ∷ []) (longest 0) (refusing BadCall)
     ∷ row 28 (small ∷ []) (longest 65534) (refusing LengthsMissing)
+    -- no label is stored on a fresh arena; one is from the add's turn at 15 on, its eleventh, and none from the remove's at 16 on, its tenth; an
+    -- arena of layout 1 has no count, and its word stays 0 (document 02, A6)
+    ∷ row 31 (small2 ∷ []) size (accepted (0 ∷ []))
+    ∷ row 31 (small2 ∷ start 0 add 5 3 ∷ turns 0 10 ∷ []) size (accepted (0 ∷ []))
+    ∷ row 31 (small2 ∷ start 0 add 5 3 ∷ turns 0 11 ∷ []) size (accepted (1 ∷ []))
+    ∷ row 31 (unlabelling 9) size (accepted (1 ∷ []))
+    ∷ row 31 (unlabelling 10) size (accepted (0 ∷ []))
+    ∷ row 31 (unlabelling 15) size (accepted (0 ∷ []))
+    ∷ row 28 (stored contains) size (accepted (65535 ∷ []))
+    ∷ row 28 (stored contains) (look stored_at) (accepted (0 ∷ []))
+    -- a count is at most N less 2, in layout 1 the word is 0: else 2
+    ∷ row 31 (small2 ∷ write stored_at 1 ∷ []) size (accepted (1 ∷ []))
+    ∷ row 31 (small2 ∷ write stored_at 2 ∷ []) size (refusing OddHeader)
+    ∷ row 28 (small ∷ write stored_at 1 ∷ []) size (refusing OddHeader)
+    ∷ row 7 [] size (refusing ShortArena)
+    -- stage 15 on a count of N less 2: 14; on one less it goes on. Stage 14 is not refused for it
+    ∷ row 31 (adding_on 1 10) (turns 0 1) (refusing BrokenCount)
+    ∷ row 31 (adding_on 0 10) (turns 0 1) (report_reply (Moved 19))
+    ∷ row 31 (adding_on 1 9) (turns 0 1) (report_reply (Moved 15))
+    -- stage 16 on a count of 0: 14, and nothing is written; 18 is not refused for it; a broken record comes first
+    ∷ row 31 (removing_on 0 9) (turns 0 1) (refusing BrokenCount)
+    ∷ row 31 (removing_on 0 9 ++ turns 0 1 ∷ []) (look (worker_from 0 + worker_stage)) (accepted (16 ∷ []))
+    ∷ row 31 (removing_on 0 11) (turns 0 1) (report_reply (Moved 19))
+    ∷ row 31 (removing_on 0 9 ++ write (worker_from 0 + worker_operation) add ∷ []) (turns 0 1) (refusing BrokenRecord)
     ∷ []
