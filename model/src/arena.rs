@@ -14,6 +14,7 @@ pub const NO_ROOM: u16 = 8; // no room
 pub const BAD_SCHEDULE: u16 = 9; // bad schedule
 pub const BAD_COUNTS: u16 = 10; // bad counts
 pub const LENGTHS_MISSING: u16 = 13; // lengths missing
+pub const BROKEN_COUNT: u16 = 14; // broken count
 
 pub const LAYOUT_1: u16 = 1;
 /// Nodes have a fifth word, the length.
@@ -31,6 +32,8 @@ pub const REMOVE: u16 = 2;
 pub const CONTAINS: u16 = 3;
 
 pub const HEADER_WORDS: usize = 8;
+/// The place of the count in the header: in layout 2 the size of the set, in layout 1 always 0.
+pub const COUNT: usize = 6;
 pub const WORKER_WORDS: usize = 8;
 /// Words of the longest node record.
 pub const MAX_NODE_WORDS: usize = 5;
@@ -103,7 +106,18 @@ impl Shape {
         self.node_at(self.nodes)
     }
 
-    pub fn header(self) -> [u16; HEADER_WORDS] {
+    /// The greatest count that a header may hold: every node but Head and Tail may be stored. Layout 1
+    /// counts nothing.
+    pub fn max_count(self) -> u16 {
+        if self.layout == LAYOUT_1 {
+            0
+        } else {
+            self.nodes - 2
+        }
+    }
+
+    /// The header with this count, which of a fresh arena is 0.
+    pub fn header(self, count: u16) -> [u16; HEADER_WORDS] {
         let workers_at = HEADER_WORDS as u16;
         let nodes_at = self.node_at(0) as u16;
         let total = self.total() as u16;
@@ -114,22 +128,28 @@ impl Shape {
             workers_at,
             nodes_at,
             total,
-            0,
+            count,
             0,
         ]
     }
+
+    /// Whether these eight words are the header with some count that it may hold.
+    pub fn is_header(self, words: &[u16]) -> bool {
+        let count = words[COUNT];
+        count <= self.max_count() && *words == self.header(count)
+    }
 }
 
-/// The header test: refusals 1 and 2. For 1, word 5 is believed before the rest is looked at.
+/// The header test: refusals 1 and 2. For 1, word 5 is believed before the rest is looked at. The
+/// count is not compared with the chain.
 pub fn check_header(arena: &[u16]) -> Result<Shape, u16> {
     if arena.len() < HEADER_WORDS || arena.len() < arena[5] as usize {
         return Err(SHORT_ARENA);
     }
-    let shape = Shape::new(arena[0], arena[1], arena[2]).ok_or(ODD_HEADER)?;
-    if arena[..HEADER_WORDS] != shape.header() {
-        return Err(ODD_HEADER);
-    }
-    Ok(shape)
+    let shape = Shape::new(arena[0], arena[1], arena[2]);
+    shape
+        .filter(|shape| shape.is_header(&arena[..HEADER_WORDS]))
+        .ok_or(ODD_HEADER)
 }
 
 /// Writes a fresh arena (document 01: lay). Refusals 10, 1.
@@ -138,7 +158,7 @@ pub fn init(arena: &mut [u16], layout: u16, workers: u16, nodes: u16) -> Result<
     if arena.len() < shape.total() {
         return Err(SHORT_ARENA);
     }
-    arena[..HEADER_WORDS].copy_from_slice(&shape.header());
+    arena[..HEADER_WORDS].copy_from_slice(&shape.header(0));
     for worker in 0..workers {
         let at = shape.worker_at(worker);
         arena[at..at + WORKER_WORDS].copy_from_slice(&IDLE_WORKER);

@@ -10,6 +10,7 @@ use std::thread;
 use std::time::Duration;
 
 use crate::bench::{evaluate, render, Outcome};
+use crate::count::check_counts;
 use crate::generate::{generate, Generated};
 use crate::linearizable::{check_times, check_told, explained};
 use crate::run::Trace;
@@ -113,10 +114,11 @@ impl Comparison {
     }
 }
 
-/// Checks a history of the model by its points, its waits, its roll and, if it is small, by search.
+/// Checks a history of the model by its points, its waits, its counts, its roll and, if it is small, by
+/// search.
 fn check_history(trace: &Trace, roll: &[u16], tally: &mut Tally) -> Result<(), String> {
-    // Document 01: no turn from a fresh arena meets 6 or 7; a run has its own, so 1 and 2 are out.
-    let only_known = [1, 2, 6, 7, 8, 9, 10]
+    // The documents: no turn from a fresh arena meets 6, 7 or 14; a run has its own, so 1 and 2 are out.
+    let only_known = [1, 2, 6, 7, 8, 9, 10, 13, 14]
         .iter()
         .all(|&number| trace.refusals[number] == 0);
     if !only_known {
@@ -127,6 +129,7 @@ fn check_history(trace: &Trace, roll: &[u16], tally: &mut Tally) -> Result<(), S
     check_times(&trace.calls)?;
     check_told(&trace.calls, &trace.told)?;
     check_waits(trace)?;
+    check_counts(trace.shape.layout, &trace.sets, &trace.counts)?;
     sequential::check(&trace.calls, last_set)?;
     sequential::check_roll(&trace.calls, roll)?;
     tally.met(SEQUENTIAL, 1);

@@ -4,6 +4,7 @@
 pub mod arena;
 pub mod bench;
 pub mod compare;
+pub mod count;
 pub mod damage;
 pub mod free;
 pub mod free_run;
@@ -17,6 +18,7 @@ pub mod run;
 pub mod scenes;
 pub mod script;
 pub mod selftest;
+pub mod selftest_counts;
 pub mod selftest_free;
 pub mod selftest_free_runs;
 pub mod selftest_lengths;

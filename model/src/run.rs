@@ -95,8 +95,10 @@ pub struct Trace {
     pub told: Vec<u16>,
     /// The set at every time (document 01: moment); time 0 is the fresh arena.
     pub sets: Vec<Vec<Label>>,
+    /// The header's count at every time.
+    pub counts: Vec<u16>,
     /// Refused entries by refusal number.
-    pub refusals: [u32; 11],
+    pub refusals: [u32; BROKEN_COUNT as usize + 1],
     /// Starts refused for their length alone.
     pub refused_lengths: u32,
     /// Turns at stage 11.
@@ -138,7 +140,7 @@ pub fn trace_entries(arena: &mut [u16], shape: Shape, schedule: &[u16]) -> Trace
         shape,
         ..Trace::default()
     };
-    trace.sets.push(set(arena));
+    trace.keep(arena);
     for entry in schedule.chunks(ENTRY_WORDS) {
         trace.entry(arena, entry);
     }
@@ -158,8 +160,14 @@ impl Trace {
         if let Err(number) = done {
             self.totals.refused += 1;
             self.refusals[number as usize] += 1;
-            self.sets.push(set(arena));
+            self.keep(arena);
         }
+    }
+
+    /// Keeps what is stored at this time, for looking back.
+    fn keep(&mut self, arena: &[u16]) {
+        self.sets.push(set(arena));
+        self.counts.push(arena[COUNT]);
     }
 
     /// The number of entries made so far.
@@ -181,7 +189,7 @@ impl Trace {
             self.refused_lengths += 1;
         }
         started?;
-        self.sets.push(set(arena));
+        self.keep(arena);
         self.totals.calls += 1;
         self.current[worker as usize] = Some(self.calls.len());
         self.calls.push(Call {
@@ -205,7 +213,7 @@ impl Trace {
             0
         };
         let report = turn(arena, worker)?;
-        self.sets.push(set(arena));
+        self.keep(arena);
         self.totals.waits += u16::from(matches!(report, Report::Waits { .. }));
         match (report, self.current[worker as usize]) {
             (Report::Waits { node, worker }, Some(call)) => self.waits.push(Wait {

@@ -7,6 +7,7 @@ use crate::limits::CASES;
 use crate::linearizable::{check_times, check_told, explained};
 use crate::rng::Rng;
 use crate::run::Call;
+use crate::selftest_counts;
 use crate::selftest_free;
 use crate::selftest_free_runs;
 use crate::selftest_lengths;
@@ -130,6 +131,7 @@ pub fn selftest() -> Checks {
     selftest_refusals::refusals(&mut checks);
     selftest_waits::waits(&mut checks);
     selftest_lengths::lengths(&mut checks);
+    selftest_counts::counts(&mut checks);
     selftest_roll::rolls(&mut checks);
     selftest_free::free_nodes(&mut checks);
     selftest_searches::searches(&mut checks);

@@ -2,6 +2,7 @@
 //! told.
 
 use crate::arena::*;
+use crate::count::check_counts;
 use crate::linearizable::explained;
 use crate::run::{run_traced, trace_entries, Call, Room, Trace, ENTRY_WORDS};
 use crate::selftest::{fresh, history, Checks};
@@ -252,6 +253,9 @@ fn layouts_alike(checks: &mut Checks) {
         checks.check("lengths in layout 2 alone", has_lengths != is_first);
         let fed = sequential::check(&trace.calls, &last_set);
         checks.check("fed by points", fed.is_ok());
+        let counted = check_counts(trace.shape.layout, &trace.sets, &trace.counts);
+        let is_refused = trace.refusals[BROKEN_COUNT as usize] != 0;
+        checks.check("counts at every time", counted.is_ok() && !is_refused);
     }
     let refused = trace_entries(&mut fresh(SHAPES[0].0), SHAPES[0].0, &schedule);
     let has_add = refused.calls.iter().any(|call| call.operation == ADD);

@@ -192,6 +192,7 @@ fn headers(checks: &mut Checks, shape: Shape) {
     refused(checks, "turn", 1, vec![1; 7], |a| turn(a, 0));
     for word in 0..HEADER_WORDS {
         let mut arena = fresh(shape);
+        arena[COUNT] = shape.max_count();
         arena[word] += 1;
         let number = if word == 5 { 1 } else { 2 };
         refused(checks, "header", number, arena.clone(), |a| turn(a, 0));
@@ -232,9 +233,11 @@ pub const STAGES: [(u16, &[u16], &[usize]); 25] = [
     (25, &[CONTAINS], &[CURR]),
 ];
 
-/// An arena whose worker 0 stands at a stage, on good nodes.
+/// An arena whose worker 0 stands at a stage, on good nodes. Where there is a count, it can go up and
+/// down.
 pub fn at_stage(shape: Shape, stage: u16, operation: u16) -> Vec<u16> {
     let mut arena = fresh(shape);
+    arena[COUNT] = shape.max_count() / 2;
     let at = shape.worker_at(0);
     arena[at..at + WORKER_WORDS].copy_from_slice(&[stage, operation, 5, 0, 2, 3, 1, 0]);
     arena

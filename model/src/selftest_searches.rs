@@ -113,7 +113,8 @@ fn some_node(rng: &mut Rng, shape: Shape, percent: u64) -> u16 {
 fn any_arena(rng: &mut Rng, shape: Shape, choice: &Choice) -> Vec<u16> {
     let words = shape.total() + rng.index(4);
     let mut arena: Vec<u16> = (0..words).map(|_| rng.word(0, NONE)).collect();
-    arena[..HEADER_WORDS].copy_from_slice(&shape.header());
+    let count = rng.word(0, shape.max_count());
+    arena[..HEADER_WORDS].copy_from_slice(&shape.header(count));
     for worker in 0..shape.workers {
         let at = shape.worker_at(worker);
         let is_idle = choice.all_idle.unwrap_or_else(|| rng.chance(50));

@@ -27,7 +27,7 @@ fn any_words_in(checks: &mut Checks, shape: Shape, total: usize) {
         let highest = *rng.pick(&[1, 5, 30, 65_535]);
         let mut arena: Vec<u16> = (0..words).map(|_| rng.word(0, highest)).collect();
         if words >= total {
-            arena[..HEADER_WORDS].copy_from_slice(&shape.header());
+            arena[..HEADER_WORDS].copy_from_slice(&shape.header(rng.word(0, shape.max_count())));
         }
         let before = arena.clone();
         let worker = rng.word(0, 2);

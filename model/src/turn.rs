@@ -1,6 +1,7 @@
 //! One turn of a worker, on an arena of any content.
 
 use crate::arena::*;
+use crate::count::count_change;
 use crate::free::find_free_in;
 
 #[derive(Clone, Copy, Debug, PartialEq, Eq)]
@@ -105,7 +106,7 @@ enum Next {
     Wait { node: u16, worker: u16 },
 }
 
-/// Gives a worker one turn. Refusals 1, 2, 3, 6, 7.
+/// Gives a worker one turn. Refusals 1, 2, 3, 6, 7, 14.
 pub fn turn(arena: &mut [u16], worker: u16) -> Result<Report, u16> {
     let shape = check_header(arena)?;
     if worker >= shape.workers {
@@ -226,7 +227,8 @@ fn lock_or_test(me: &Record, arena: &mut [u16], shape: Shape, owner: u16) -> Nex
     Next::Stage(to)
 }
 
-/// Stages 13 to 18: what add and remove do once both nodes are theirs.
+/// Stages 13 to 18: what add and remove do once both nodes are theirs. The set changes at 15 and 16, and
+/// with it the count; it is judged before a node is written, since a refusal writes nothing.
 fn change(me: &mut Record, arena: &mut [u16], shape: Shape) -> Result<Next, u16> {
     let to = match me.stage {
         13 => {
@@ -237,21 +239,14 @@ fn change(me: &mut Record, arena: &mut [u16], shape: Shape) -> Result<Next, u16>
                 _ => decide(me, Answer::No, 19),
             }
         }
-        14 => match find_free_in(arena, shape).node {
-            None => decide(me, Answer::Full, 19),
-            Some(node) => {
-                let record = [me.key, me.curr, 0, 0, me.length];
-                let words = &mut arena[shape.node_at(node)..][..shape.node_words()];
-                words.copy_from_slice(&record[..shape.node_words()]);
-                me.spare = node;
-                15
-            }
-        },
+        14 => take_node(me, arena, shape),
         15 => {
+            count_change(arena, shape, 1)?;
             arena[shape.node_at(me.pred) + NEXT] = me.spare;
             decide(me, Answer::Yes, 19)
         }
         16 => {
+            count_change(arena, shape, -1)?;
             arena[shape.node_at(me.curr) + MARK] = 1;
             decide(me, Answer::Yes, 17)
         }
@@ -265,6 +260,18 @@ fn change(me: &mut Record, arena: &mut [u16], shape: Shape) -> Result<Next, u16>
         }
     };
     Ok(Next::Stage(to))
+}
+
+/// Stage 14: the lowest-numbered free node becomes the new label's.
+fn take_node(me: &mut Record, arena: &mut [u16], shape: Shape) -> u16 {
+    let Some(node) = find_free_in(arena, shape).node else {
+        return decide(me, Answer::Full, 19);
+    };
+    let record = [me.key, me.curr, 0, 0, me.length];
+    let words = &mut arena[shape.node_at(node)..][..shape.node_words()];
+    words.copy_from_slice(&record[..shape.node_words()]);
+    me.spare = node;
+    15
 }
 
 fn decide(me: &mut Record, answer: Answer, to: u16) -> u16 {

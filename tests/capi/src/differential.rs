@@ -8,6 +8,7 @@ mod damaged;
 mod free_runs;
 mod lent;
 mod met;
+mod met_counts;
 mod met_free_runs;
 mod met_lengths;
 mod met_rolls;
@@ -20,6 +21,7 @@ mod schedules;
 mod spread;
 pub mod tally;
 pub mod wrong;
+mod wrong_counts;
 mod wrong_free_replies;
 mod wrong_free_runs;
 mod wrong_lengths;
@@ -27,6 +29,7 @@ mod wrong_library;
 mod wrong_others;
 mod wrong_runs;
 mod wrong_searches;
+mod wrong_stored;
 mod wrong_turns;
 
 use std::sync::atomic::{AtomicU64, Ordering};
@@ -35,7 +38,7 @@ use std::thread;
 use model::arena::{check_header, set, LAYOUT_2, STAGE};
 use model::rng::Rng;
 
-use crate::library::{Library, Values};
+use crate::library::{stored_values, Library, Values};
 use arenas::{Arenas, Kind};
 use chain::Chain;
 use comparer::{Comparer, Outcome};
@@ -160,6 +163,7 @@ impl<'a> Examiner<'a> {
         self.compare(number, words, &requests::snapshot(rng, chain));
         self.compare(number, words, &Request::FindFree);
         self.compare(number, words, &requests::longest_free_run(rng, chain));
+        self.compare(number, words, &Request::Stored);
         if rng.chance(5) {
             let (length, init) = requests::init(rng);
             self.compare(number, &fitted(words, length), &init);
@@ -198,27 +202,43 @@ impl<'a> Examiner<'a> {
             }
             met.note_wait(&wait);
         }
-        if let (Request::Snapshot { .. }, Some(values)) = (request, Values::read(reply)) {
-            let keys = &self.comparer.last_keys()[..values.first as usize];
-            coverage.note_roll(is_set_of(words, keys));
+        match (request, Values::read(reply)) {
+            (_, Some(values)) => self.note_told(words, request, values, reached),
+            (&Request::LongestFreeRun { last_cell }, None) => {
+                met.note_no_free_run(words, last_cell, reply);
+            }
+            _ => {}
         }
-        if let (Request::FindFree, Some(values)) = (request, Values::read(reply)) {
-            let rooted = Rooted::of(words).expect("the header was not refused");
-            coverage.note_search(rooted.found() == values);
-            met.note_search(&rooted, reached);
-        }
-        if let Request::LongestFreeRun { last_cell } = *request {
-            if let Some(values) = Values::read(reply) {
+        let met = &mut self.tally.met;
+        met.note_reply(request, reply, self.comparer.last_run());
+        met.note_length(words, request, reply);
+        met.note_count(words, request, reply, reached);
+        met.note_roll(words, request, reply, reached);
+    }
+
+    /// Notes what the model told of an arena, beside another way to find it.
+    fn note_told(&mut self, words: &[u16], request: &Request, values: Values, reached: bool) {
+        let Tally { coverage, met, .. } = &mut self.tally;
+        match *request {
+            Request::Snapshot { .. } => {
+                let keys = &self.comparer.last_keys()[..values.first as usize];
+                coverage.note_roll(is_set_of(words, keys));
+            }
+            Request::FindFree => {
+                let rooted = Rooted::of(words).expect("the header was not refused");
+                coverage.note_search(rooted.found() == values);
+                met.note_search(&rooted, reached);
+            }
+            Request::LongestFreeRun { last_cell } => {
                 let runs = FreeRuns::of(words, last_cell).expect("the arena was not refused");
                 coverage.note_free_run(runs.longest() == values);
                 met.note_free_run(&runs, reached);
-            } else {
-                met.note_no_free_run(words, last_cell, reply);
             }
+            Request::Stored if reached => {
+                coverage.note_count(values == stored_values(size_if_counted(words)));
+            }
+            _ => {}
         }
-        met.note_reply(request, reply, self.comparer.last_run());
-        met.note_length(words, request, reply);
-        met.note_roll(words, request, reply, reached);
     }
 }
 
@@ -232,6 +252,11 @@ fn fitted(words: &[u16], length: usize) -> Vec<u16> {
 fn is_set_of(words: &[u16], keys: &[u16]) -> bool {
     let set = set(words);
     set.iter().map(|label| label.key).eq(keys.iter().copied())
+}
+
+/// The size of the set, where a count of it is kept.
+fn size_if_counted(words: &[u16]) -> Option<u16> {
+    (words[0] == LAYOUT_2).then(|| set(words).len() as u16)
 }
 
 /// The layout that is to be laid, or the one that the arena names.

@@ -1,6 +1,7 @@
 //! The entry points of include/lazy_list.h, of the proved library and of the model.
 
 use model::arena;
+use model::count;
 use model::free;
 use model::free_run;
 use model::run;
@@ -19,6 +20,7 @@ pub trait Library: Sync {
     fn snapshot(&self, arena: &[u16], keys: &mut [u16]) -> u64;
     fn find_free(&self, arena: &[u16]) -> u64;
     fn longest_free_run(&self, arena: &[u16], last_cell: u16) -> u64;
+    fn stored(&self, arena: &[u16]) -> u64;
     fn run(&self, run: Run) -> u64;
 }
 
@@ -91,6 +93,7 @@ mod c {
         ) -> u64;
         pub fn lazy_list_find_free(arena: *const u16, length: usize) -> u64;
         pub fn lazy_list_longest_free_run(arena: *const u16, length: usize, last_cell: u16) -> u64;
+        pub fn lazy_list_stored(arena: *const u16, length: usize) -> u64;
         pub fn lazy_list_run(
             arena: *mut u16,
             length: usize,
@@ -148,6 +151,10 @@ impl Library for Proved {
 
     fn longest_free_run(&self, arena: &[u16], last_cell: u16) -> u64 {
         unsafe { c::lazy_list_longest_free_run(arena.as_ptr(), arena.len(), last_cell) }
+    }
+
+    fn stored(&self, arena: &[u16]) -> u64 {
+        unsafe { c::lazy_list_stored(arena.as_ptr(), arena.len()) }
     }
 
     fn run(&self, run: Run) -> u64 {
@@ -233,6 +240,14 @@ fn count_values(count: usize) -> Values {
     }
 }
 
+/// What stands for the count of an arena that keeps none.
+const NOT_COUNTED: u16 = 65_535;
+
+/// The count.
+pub fn stored_values(count: Option<u16>) -> Values {
+    count_values(count.unwrap_or(NOT_COUNTED).into())
+}
+
 /// The node, or 65,535 for none; the next words read.
 pub fn found_values(found: free::Found) -> Values {
     Values {
@@ -275,6 +290,10 @@ impl Library for Model {
 
     fn longest_free_run(&self, arena: &[u16], last_cell: u16) -> u64 {
         number(free_run::longest_free_run(arena, last_cell).map(free_run_values))
+    }
+
+    fn stored(&self, arena: &[u16]) -> u64 {
+        number(count::stored(arena).map(stored_values))
     }
 
     fn run(&self, run: Run) -> u64 {

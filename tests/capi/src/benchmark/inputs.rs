@@ -47,6 +47,7 @@ fn arena_with_labels(nodes: u16, labels: impl Iterator<Item = Label>) -> Vec<u16
         let record = [label.key, TAIL, 0, 0, label.length];
         arena[at..at + MAX_NODE_WORDS].copy_from_slice(&record);
         arena[shape.node_at(last) + NEXT] = node;
+        arena[COUNT] += 1;
         last = node;
     }
     arena
@@ -270,6 +271,11 @@ pub fn snapshots(nodes: u16) -> Repeated {
 /// Searches of a full chain.
 pub fn searches(nodes: u16) -> Repeated {
     repeated(arena_with_keys(nodes, nodes - 2), 0, Call::FindFree)
+}
+
+/// Readings of the count of a full chain.
+pub fn counts(nodes: u16) -> Repeated {
+    repeated(arena_with_keys(nodes, nodes - 2), 0, Call::Stored)
 }
 
 /// Searches for the longest free run of all cells, where so many labels are spread over them, most of

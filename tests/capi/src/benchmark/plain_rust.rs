@@ -5,7 +5,8 @@ use model::plain_free_run;
 
 use crate::library::{free_run_values, number, total_words, Library, Model, Run, Start};
 
-/// Calls of the proved library cannot be inlined, so these are not either.
+/// Calls of the proved library cannot be inlined, so these are not either. Where the model's way is one
+/// for use, it is taken: header test, turns and with them the count.
 pub struct PlainRust;
 
 impl Library for PlainRust {
@@ -38,6 +39,11 @@ impl Library for PlainRust {
     #[inline(never)]
     fn longest_free_run(&self, arena: &[u16], last_cell: u16) -> u64 {
         number(plain_free_run::longest_free_run(arena, last_cell).map(free_run_values))
+    }
+
+    #[inline(never)]
+    fn stored(&self, arena: &[u16]) -> u64 {
+        Model.stored(arena)
     }
 
     /// Not the model's, which keeps the set at every time.

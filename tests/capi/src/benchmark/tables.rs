@@ -53,6 +53,8 @@ pub fn side_by_side(rounds: usize, show: &mut dyn FnMut(Row)) {
     free_run("longest_free_run, 10 labels", 10);
     free_run("longest_free_run, 100 labels", 100);
     free_run("longest_free_run, 1,022 labels", 1_022);
+    let counts = inputs::counts(1_024);
+    show(other("stored, 1,022 keys", &counts, rounds));
 }
 
 fn other(what: &'static str, work: &impl Workload, rounds: usize) -> Row {

@@ -151,6 +151,7 @@ pub enum Call {
     LongestFreeRun {
         last_cell: u16,
     },
+    Stored,
 }
 
 impl Call {
@@ -165,6 +166,7 @@ impl Call {
             Call::Snapshot => library.snapshot(arena, &mut words.out),
             Call::FindFree => library.find_free(arena),
             Call::LongestFreeRun { last_cell } => library.longest_free_run(arena, last_cell),
+            Call::Stored => library.stored(arena),
         }
     }
 }

@@ -104,6 +104,7 @@ impl Desk {
         background: &[u16],
     ) -> u64 {
         self.arena.lend(arena);
+        self.lend_rows(request, background);
         match *request {
             Request::Init {
                 layout,
@@ -112,27 +113,32 @@ impl Desk {
             } => library.init(self.arena.words_mut(), layout, workers, nodes),
             Request::Start { worker, call } => library.start(self.arena.words_mut(), worker, call),
             Request::Turn { worker } => library.turn(self.arena.words_mut(), worker),
-            Request::Snapshot { room } => {
-                self.keys.lend(&background[..room]);
-                library.snapshot(self.arena.words(), self.keys.words_mut())
-            }
+            Request::Snapshot { .. } => library.snapshot(self.arena.words(), self.keys.words_mut()),
             Request::FindFree => library.find_free(self.arena.words()),
             Request::LongestFreeRun { last_cell } => {
                 library.longest_free_run(self.arena.words(), last_cell)
             }
+            Request::Stored => library.stored(self.arena.words()),
+            Request::Run { workers, nodes, .. } => self.run(library, workers, nodes),
+        }
+    }
+
+    /// The words besides the arena.
+    fn lend_rows(&mut self, request: &Request, background: &[u16]) {
+        match *request {
+            Request::Snapshot { room } => self.keys.lend(&background[..room]),
             Request::Run {
-                workers,
-                nodes,
                 ref schedule,
                 history_length,
                 waits_length,
+                ..
             } => {
                 self.schedule.lend(schedule);
                 self.history.lend(&background[..history_length]);
                 self.waits.lend(&background[..waits_length]);
                 self.totals.lend(&background[..4]);
-                self.run(library, workers, nodes)
             }
+            _ => {}
         }
     }
 

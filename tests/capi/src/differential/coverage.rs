@@ -1,7 +1,7 @@
 //! What the comparison must have met: every reply and every move that the documents know, in both
 //! layouts.
 
-use model::arena::{LAYOUTS, LENGTHS_MISSING};
+use model::arena::{BROKEN_COUNT, LAYOUTS};
 
 use super::requests::EntryPoint;
 use crate::library::{self, Values};
@@ -24,10 +24,10 @@ impl Column {
 }
 
 /// The refusals of each entry point, in the documents' order.
-const REFUSALS: [(EntryPoint, &str, &[u64]); 7] = [
+const REFUSALS: [(EntryPoint, &str, &[u64]); 8] = [
     (EntryPoint::Init, "init", &[10, 1]),
     (EntryPoint::Start, "start", &[1, 2, 3, 6, 4, 5]),
-    (EntryPoint::Turn, "turn", &[1, 2, 3, 6, 7]),
+    (EntryPoint::Turn, "turn", &[1, 2, 3, 6, 7, 14]),
     (EntryPoint::Snapshot, "snapshot", &[1, 2, 7, 8]),
     (EntryPoint::FindFree, "find_free", &[1, 2]),
     (
@@ -35,13 +35,14 @@ const REFUSALS: [(EntryPoint, &str, &[u64]); 7] = [
         "longest_free_run",
         &[1, 2, 5, 7, 13],
     ),
+    (EntryPoint::Stored, "stored", &[1, 2]),
     (EntryPoint::Run, "run", &[10, 9, 1, 8]),
 ];
 const ACCEPTED: u64 = 0;
 /// Of all refusals, and 0.
-const REPLIES: usize = LENGTHS_MISSING as usize + 1;
+const REPLIES: usize = BROKEN_COUNT as usize + 1;
 /// What may be met where neither layout is named.
-const WITHOUT_LAYOUT: [(EntryPoint, u64); 11] = [
+const WITHOUT_LAYOUT: [(EntryPoint, u64); 13] = [
     (EntryPoint::Init, 10),
     (EntryPoint::Start, 1),
     (EntryPoint::Start, 2),
@@ -53,13 +54,16 @@ const WITHOUT_LAYOUT: [(EntryPoint, u64); 11] = [
     (EntryPoint::FindFree, 2),
     (EntryPoint::LongestFreeRun, 1),
     (EntryPoint::LongestFreeRun, 2),
+    (EntryPoint::Stored, 1),
+    (EntryPoint::Stored, 2),
 ];
 
-/// What no arena reached from a fresh one may meet. Document 01 says it of turns; for the others it
+/// What no arena reached from a fresh one may meet. The documents say it of turns; for the others it
 /// follows, since stages stay in their range and keys rise along every chain.
-const NEVER_FROM_FRESH: [(EntryPoint, u64); 5] = [
+const NEVER_FROM_FRESH: [(EntryPoint, u64); 6] = [
     (EntryPoint::Turn, 6),
     (EntryPoint::Turn, 7),
+    (EntryPoint::Turn, 14),
     (EntryPoint::Start, 6),
     (EntryPoint::Snapshot, 7),
     (EntryPoint::LongestFreeRun, 7),
@@ -73,6 +77,8 @@ fn layouts(entry_point: EntryPoint, refusal: u64) -> [bool; LAYOUTS.len()] {
         // Layout 1 has no lengths.
         (EntryPoint::LongestFreeRun, ACCEPTED) => [false, true],
         (EntryPoint::LongestFreeRun, 13) => [true, false],
+        // Nor does it count.
+        (EntryPoint::Turn, 14) => [false, true],
         _ => [true, true],
     }
 }
@@ -137,6 +143,8 @@ pub struct Coverage {
     not_by_roots: u64,
     /// Free runs that are not the first one of the longest that the labels leave.
     not_the_longest: u64,
+    /// Counts of layout 2, on arenas reached from a fresh one, that are not the size of the set.
+    not_the_size: u64,
 }
 
 impl Coverage {
@@ -179,6 +187,11 @@ impl Coverage {
         self.not_the_longest += u64::from(!is_the_longest);
     }
 
+    /// Notes the count of an arena reached from a fresh one.
+    pub fn note_count(&mut self, is_the_size: bool) {
+        self.not_the_size += u64::from(!is_the_size);
+    }
+
     pub fn merge(&mut self, other: &Coverage) {
         let mine = self.replies.iter_mut().flatten().flatten();
         let mine = mine.chain(self.turns.iter_mut().flatten().flatten());
@@ -192,6 +205,7 @@ impl Coverage {
         self.not_the_set += other.not_the_set;
         self.not_by_roots += other.not_by_roots;
         self.not_the_longest += other.not_the_longest;
+        self.not_the_size += other.not_the_size;
     }
 
     /// Prints the tables and gives for each line whether it is as it must be.
@@ -207,6 +221,10 @@ impl Coverage {
             (self.not_the_set, "snapshots that do not list the set"),
             (self.not_by_roots, "searches that do not go by the roots"),
             (self.not_the_longest, "free runs that are not the longest"),
+            (
+                self.not_the_size,
+                "counts from fresh that are not the set's size",
+            ),
         ] {
             good.push(count == 0);
             if count != 0 {

@@ -4,15 +4,16 @@ use model::arena::*;
 use model::rng::Rng;
 
 use super::chain::Chain;
-use super::placed::{build_chain, fresh, place_worker, some_layout, some_mark, words_past_total};
+use super::placed::*;
 
-/// Changes one to three words of a good arena, its layout, its length, or its chain at a marked node.
-/// A changed link may lead nowhere, past some keys, or into a circle.
+/// Changes one to three words of a good arena, its layout, its length, its count, or its chain at a
+/// marked node. A changed link may lead nowhere, past some keys, or into a circle.
 pub fn damage(rng: &mut Rng, words: &mut Vec<u16>) {
     match rng.range(0, 99) {
         0..=9 => change_length(rng, words),
         10..=19 => change_layout(rng, words),
         20..=34 => break_at_mark(rng, words),
+        35..=46 => change_count(rng, words),
         _ => change_words(rng, words),
     }
 }
@@ -48,11 +49,21 @@ fn change_layout(rng: &mut Rng, words: &mut Vec<u16>) {
     match rng.range(0, 2) {
         0 => words[0] = other.layout,
         1 => words[5] = other.total() as u16,
-        _ => words[..HEADER_WORDS].copy_from_slice(&other.header()),
+        _ => words[..HEADER_WORDS].copy_from_slice(&other.header(0)),
     }
     if rng.chance(50) {
         words.resize(words.len().max(other.total()), 0);
     }
+}
+
+/// A count at an edge of its range or beside one, in the range, or any. In layout 1 only 0 is good.
+fn change_count(rng: &mut Rng, words: &mut [u16]) {
+    let nodes = check_header(words).expect("a good arena so far").nodes;
+    words[COUNT] = match rng.range(0, 9) {
+        0..=6 => *rng.pick(&[0, 1, nodes - 3, nodes - 2, nodes - 1, nodes, NONE]),
+        7..=8 => rng.word(0, nodes - 2),
+        _ => rng.word(0, NONE),
+    };
 }
 
 fn change_words(rng: &mut Rng, words: &mut [u16]) {
@@ -120,6 +131,7 @@ pub fn large(rng: &mut Rng, words: &mut Vec<u16>) {
         2 => link_all(words, shape, |node| ((node + 1) % nodes).max(2)),
         _ => link_all(words, shape, |_| rng.word(0, nodes - 1)),
     }
+    write_count(rng, words, shape);
     words_past_total(rng, words);
 }
 

@@ -59,15 +59,15 @@ fn has_good_key(call: Start) -> bool {
 
 /// Whether the words would begin with this layout's header, had it not the other one's total.
 fn has_other_total(words: &[u16], layout: u16) -> bool {
-    let Some(&[_, workers, nodes, ..]) = words.first_chunk::<HEADER_WORDS>() else {
+    let Some(&header) = words.first_chunk::<HEADER_WORDS>() else {
         return false;
     };
-    let Some(shape) = Shape::new(layout, workers, nodes) else {
+    let Some(shape) = Shape::new(layout, header[1], header[2]) else {
         return false;
     };
-    let mut header = shape.header();
-    header[5] = in_other_layout(shape).total() as u16;
-    words[..HEADER_WORDS] == header
+    let mut repaired = header;
+    repaired[5] = shape.total() as u16;
+    header[5] == in_other_layout(shape).total() as u16 && shape.is_header(&repaired)
 }
 
 /// Whether some start of a schedule would be good with another length.

@@ -22,7 +22,7 @@ pub fn arbitrary(rng: &mut Rng, words: &mut Vec<u16>) {
 pub fn good_header(rng: &mut Rng, words: &mut Vec<u16>) -> u16 {
     let shape = small_shape(rng);
     words.clear();
-    words.extend(shape.header());
+    words.extend(shape.header(some_count(rng, shape)));
     for _ in 0..shape.workers {
         words.extend(arbitrary_worker(rng, shape));
     }
@@ -35,6 +35,26 @@ pub fn good_header(rng: &mut Rng, words: &mut Vec<u16>) -> u16 {
         place_worker(rng, words, shape, likely);
     }
     likely
+}
+
+/// A count that the header may hold, mostly at an end of its range or beside one.
+fn some_count(rng: &mut Rng, shape: Shape) -> u16 {
+    let most = shape.max_count();
+    if rng.chance(30) {
+        rng.word(0, most)
+    } else {
+        let near_end = *rng.pick(&[0, 1, most.saturating_sub(1), most]);
+        near_end.min(most)
+    }
+}
+
+/// The size of the set for a count, or another one, since nothing compares it with the chain.
+pub fn write_count(rng: &mut Rng, words: &mut [u16], shape: Shape) {
+    words[COUNT] = if rng.chance(40) {
+        shape.max_count().min(set(words).len() as u16)
+    } else {
+        some_count(rng, shape)
+    };
 }
 
 pub fn some_layout(rng: &mut Rng) -> u16 {
@@ -114,6 +134,7 @@ pub fn placed(rng: &mut Rng, words: &mut Vec<u16>) -> u16 {
     let shape = small_shape(rng);
     fresh(shape, words);
     build_chain(rng, words, shape);
+    write_count(rng, words, shape);
     words_past_total(rng, words);
     for worker in 0..shape.workers {
         if rng.chance(40) {
@@ -175,8 +196,12 @@ pub fn build_chain(rng: &mut Rng, words: &mut [u16], shape: Shape) {
 
 /// Puts a worker at a random stage on two neighbours, with a record that mostly belongs there.
 pub fn place_worker(rng: &mut Rng, words: &mut [u16], shape: Shape, worker: u16) {
-    // Stage 14 looks at the whole arena, so it needs the most trials.
-    let stage = if rng.chance(10) { 14 } else { rng.word(0, 26) };
+    // Stage 14 looks at the whole arena, so it needs the most trials; 15 and 16 count.
+    let stage = match rng.range(0, 99) {
+        0..=9 => 14,
+        10..=17 => rng.word(15, 16),
+        _ => rng.word(0, 26),
+    };
     let near = rng.word(0, shape.nodes - 1);
     let far = words[shape.node_at(near) + NEXT];
     let mut or_any = |node: u16| match rng.range(0, 19) {

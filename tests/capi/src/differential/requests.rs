@@ -18,6 +18,7 @@ pub enum EntryPoint {
     Snapshot,
     FindFree,
     LongestFreeRun,
+    Stored,
     Run,
 }
 
@@ -42,6 +43,7 @@ pub enum Request {
     LongestFreeRun {
         last_cell: u16,
     },
+    Stored,
     /// With so many words for the history and for the waits.
     Run {
         workers: u16,
@@ -61,6 +63,7 @@ impl Request {
             Request::Snapshot { .. } => EntryPoint::Snapshot,
             Request::FindFree => EntryPoint::FindFree,
             Request::LongestFreeRun { .. } => EntryPoint::LongestFreeRun,
+            Request::Stored => EntryPoint::Stored,
             Request::Run { .. } => EntryPoint::Run,
         }
     }
@@ -89,6 +92,7 @@ impl fmt::Display for Request {
             Request::LongestFreeRun { last_cell } => {
                 write!(out, "longest_free_run up to cell {last_cell}")
             }
+            Request::Stored => write!(out, "stored"),
             Request::Run {
                 workers,
                 nodes,

@@ -1,6 +1,7 @@
 //! Libraries with one fault each. The comparison must tell every one of them from the model, or
 //! it would say nothing about the proved library either.
 
+use super::wrong_counts::*;
 use super::wrong_free_replies::*;
 use super::wrong_free_runs::*;
 use super::wrong_lengths::*;
@@ -8,19 +9,22 @@ use super::wrong_library::*;
 use super::wrong_others::*;
 use super::wrong_runs::*;
 use super::wrong_searches::*;
+use super::wrong_stored::*;
 use super::wrong_turns::*;
 use super::Comparison;
 
 /// Arenas that a wrong library gets at most.
 const COUNT: u64 = 50_000;
 
-const WRONG: [Wrong; 181] = [
+static WRONG: [Wrong; 233] = [
     wrong_init("init writes a word past the total", init_past_total),
     wrong_init("init wants layout 2's words for both", init_more_words),
     wrong_init("init writes the other's total", init_other_total),
     wrong_init("init takes layout 3", init_layout_3),
     wrong_init("init: short arena before the layout", init_words_first),
     wrong_init("init leaves the lengths", init_keeps_lengths),
+    wrong_init("init leaves the old count", init_keeps_count),
+    wrong_init("init counts Head and Tail", init_counts_ends),
     wrong_start("start writes a word too many", start_too_long),
     wrong_start("start: bad call before busy", start_bad_call_first),
     wrong_start("start: bad length before busy", start_bad_length_first),
@@ -32,6 +36,8 @@ const WRONG: [Wrong; 181] = [
     wrong_start("start: key and length up to 65,534", start_end_65534),
     wrong_start("start: the sum in 16 bits", start_short_sum),
     wrong_start("start forgets the length", start_forgets_length),
+    wrong_start("start takes any count", start_any_count),
+    wrong_start("start wants the set's count", start_count_of_set),
     wrong_turn("turn: four words to a node in layout 2", turn_narrow),
     wrong_turn("turn: five words to a node in layout 1", turn_wide),
     wrong_turn("turn at 14 searches by four words", turn_narrow_search),
@@ -64,6 +70,33 @@ const WRONG: [Wrong; 181] = [
     wrong_turn("turn waits for the worker itself", turn_own_number),
     wrong_turn("turn names no worker", turn_no_second),
     wrong_turn("turn names a worker of the arena", turn_known_worker),
+    wrong_turn("turn takes any count", turn_any_count),
+    wrong_turn("turn takes a count of N less 1", turn_count_below_nodes),
+    wrong_turn("turn takes no count of N less 2", turn_count_below_most),
+    wrong_turn("turn takes count 0 alone", turn_count_0),
+    wrong_turn("turn takes any word 6 in layout 1", turn_any_word_in_1),
+    wrong_turn("turn takes N less 2 in layout 1", turn_bound_in_1),
+    wrong_turn("turn wants the set's count", turn_count_of_set),
+    wrong_turn("turn never counts", turn_never_counts),
+    wrong_turn("turn counts a label at 14", turn_counts_at_14),
+    wrong_turn("turn counts a label out at 18", turn_counts_at_18),
+    wrong_turn("turn counts a label out twice", turn_counts_down_twice),
+    wrong_turn("turn counts in layout 1", turn_counts_in_1),
+    wrong_turn("turn counts no label out", turn_counts_up_alone),
+    wrong_turn("turn counts no label in", turn_counts_down_alone),
+    wrong_turn("turn counts the set anew", turn_counts_anew),
+    wrong_turn("turn is never refused 14", turn_no_14),
+    wrong_turn("turn stops counting at the ends", turn_stops_counting),
+    wrong_turn("turn at 16 is never refused 14", turn_no_14_at_16),
+    wrong_turn("turn at 15: 14 on N less 1", turn_14_by_nodes),
+    wrong_turn("turn at 15: 14 on N less 3 too", turn_14_early),
+    wrong_turn("turn at 14: 14 on N less 2", turn_14_at_14),
+    wrong_turn("turn: 14 from the first stage on", turn_14_at_once),
+    wrong_turn("turn: 14 before 6", turn_14_before_6),
+    wrong_turn("turn: 14 before 7", turn_14_before_7),
+    wrong_turn("turn: 14 in layout 1", turn_14_in_1),
+    wrong_turn("turn: 14 on any count but the set's", turn_14_by_set),
+    wrong_turn("turn refused 14 writes", turn_14_writes),
     wrong_snapshot("snapshot skips the last key", snapshot_skips),
     wrong_snapshot("snapshot writes without room", snapshot_no_room),
     wrong_snapshot("snapshot looks at Tail's key", snapshot_tail_key),
@@ -78,6 +111,8 @@ const WRONG: [Wrong; 181] = [
     wrong_snapshot("snapshot counts all nodes", snapshot_counts_all),
     wrong_snapshot("snapshot leaves a marked key behind", snapshot_past_listed),
     wrong_snapshot("snapshot looks at Head's mark", snapshot_head_mark),
+    wrong_snapshot("snapshot takes any count", snapshot_any_count),
+    wrong_snapshot("snapshot wants the set's count", snapshot_count_of_set),
     wrong_search("find_free swaps node and count", free_swapped),
     wrong_search("find_free has a report", free_reports),
     wrong_search("find_free: none is N", free_none_is_n),
@@ -115,6 +150,8 @@ const WRONG: [Wrong; 181] = [
     wrong_search("find_free wants no words past the total", free_whole_arena),
     wrong_search("find_free refuses a stage above 25", free_refuses_stage),
     wrong_search("find_free refuses a broken link", free_refuses_link),
+    wrong_search("find_free takes any count", free_any_count),
+    wrong_search("find_free wants the set's count", free_count_of_set),
     wrong_longest("free run: swaps first and length", longest_swapped),
     wrong_longest("free run: has a report", longest_reports),
     wrong_longest(
@@ -222,6 +259,21 @@ const WRONG: [Wrong; 181] = [
         "free run: takes the owner for the length",
         longest_owner_for_length,
     ),
+    wrong_longest("free run: takes any count", longest_any_count),
+    wrong_longest("free run: wants the set's count", longest_count_of_set),
+    wrong_stored("stored walks the chain", stored_walks),
+    wrong_stored("stored tells 0", stored_0),
+    wrong_stored("stored tells 0 in layout 1", stored_0_in_1),
+    wrong_stored("stored walks the chain in layout 1", stored_walks_in_1),
+    wrong_stored("stored refuses layout 1 with 13", stored_13_in_1),
+    wrong_stored("stored refuses layout 1 with 2", stored_2_in_1),
+    wrong_stored("stored tells the second value", stored_second),
+    wrong_stored("stored has a report", stored_reports),
+    wrong_stored("stored refuses a broken chain", stored_7),
+    wrong_stored("stored refuses a wrong count", stored_14),
+    wrong_stored("stored takes any count", stored_any_count),
+    wrong_stored("stored: odd header before short arena", stored_header_first),
+    wrong_stored("stored wants no words past the total", stored_whole_arena),
     wrong_run("run swaps waits and calls", run_swaps_totals),
     wrong_run("run dates a no by its last reading", run_late_no),
     wrong_run("run names the call after a wait's", run_next_call),
@@ -241,6 +293,8 @@ const WRONG: [Wrong; 181] = [
     wrong_run("run looks at a turn's length", run_turn_length),
     wrong_run("run stores every label with length 1", run_length_1),
     wrong_run("run is refused for a bad length", run_bad_length),
+    wrong_run("run counts on from the old count", run_keeps_count),
+    wrong_run("run leaves count 0", run_never_counts),
 ];
 
 /// Without a fault, so that the others are told for theirs and not for what they are made of.
@@ -248,6 +302,7 @@ const FAULTLESS: [Wrong; 2] = [
     RIGHT,
     Wrong {
         name: "what faults begin with",
+        turn: turn_counts,
         snapshot: snapshot_walks,
         find_free: free_walks,
         longest_free_run: longest_passes,

@@ -154,28 +154,43 @@ pub fn start_forgets_length(arena: &mut [u16], worker: u16, call: Start) -> u64 
     reply
 }
 
-/// Makes a call on an arena of this layout as if its nodes were those of the other one.
+/// Makes a call on an arena of this layout as if its nodes were those of the other one. The header is
+/// that of the arena before and after. Three nodes are left out: there no count can go up and down.
 pub fn as_other(arena: &mut [u16], layout: u16, call: impl FnOnce(&mut [u16]) -> u64) -> u64 {
     let shape = match check_header(arena) {
-        Ok(shape) if shape.layout == layout => shape,
+        Ok(shape) if shape.layout == layout && shape.nodes > 3 => shape,
         _ => return call(arena),
     };
     let other = in_other_layout(shape);
     let mut words = arena.to_vec();
     words.resize(arena.len().max(other.total()), 0);
-    words[..HEADER_WORDS].copy_from_slice(&other.header());
+    words[..HEADER_WORDS].copy_from_slice(&other.header(other.max_count() / 2));
     let reply = call(&mut words);
-    words[..HEADER_WORDS].copy_from_slice(&shape.header());
+    words[..HEADER_WORDS].copy_from_slice(&arena[..HEADER_WORDS]);
     arena.copy_from_slice(&words[..arena.len()]);
     reply
 }
 
+/// A turn as if the nodes were those of the other layout; what the count has to do with it is right.
+fn turn_as_other(arena: &mut [u16], worker: u16, layout: u16) -> u64 {
+    let mut right = arena.to_vec();
+    let reply = Model.turn(&mut right, worker);
+    if reply == u64::from(BROKEN_COUNT) {
+        return reply;
+    }
+    let reply = as_other(arena, layout, |arena| Model.turn(arena, worker));
+    if let (Some(count), Some(&right)) = (arena.get_mut(COUNT), right.get(COUNT)) {
+        *count = right;
+    }
+    reply
+}
+
 pub fn turn_narrow(arena: &mut [u16], worker: u16) -> u64 {
-    as_other(arena, LAYOUT_2, |arena| Model.turn(arena, worker))
+    turn_as_other(arena, worker, LAYOUT_2)
 }
 
 pub fn turn_wide(arena: &mut [u16], worker: u16) -> u64 {
-    as_other(arena, LAYOUT_1, |arena| Model.turn(arena, worker))
+    turn_as_other(arena, worker, LAYOUT_1)
 }
 
 pub fn snapshot_narrow(arena: &[u16], keys: &mut [u16]) -> u64 {
@@ -321,7 +336,7 @@ pub fn run_12000_words(mut run: Run) -> u64 {
 pub fn run_layout_1(mut run: Run) -> u64 {
     let reply = Model.run(run.again());
     if let (ACCEPTED, Some(shape)) = (reply, Shape::new(LAYOUT_1, run.workers, run.nodes)) {
-        run.arena[..HEADER_WORDS].copy_from_slice(&shape.header());
+        run.arena[..HEADER_WORDS].copy_from_slice(&shape.header(0));
     }
     reply
 }

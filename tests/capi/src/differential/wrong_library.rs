@@ -14,6 +14,7 @@ pub struct Wrong {
     pub snapshot: fn(&[u16], &mut [u16]) -> u64,
     pub find_free: fn(&[u16]) -> u64,
     pub longest_free_run: fn(&[u16], u16) -> u64,
+    pub stored: fn(&[u16]) -> u64,
     pub run: fn(Run) -> u64,
 }
 
@@ -25,6 +26,7 @@ pub const RIGHT: Wrong = Wrong {
     snapshot: |arena, keys| Model.snapshot(arena, keys),
     find_free: |arena| Model.find_free(arena),
     longest_free_run: |arena, last_cell| Model.longest_free_run(arena, last_cell),
+    stored: |arena| Model.stored(arena),
     run: |run| Model.run(run),
 };
 
@@ -76,6 +78,14 @@ pub const fn wrong_longest(name: &'static str, longest_free_run: fn(&[u16], u16)
     }
 }
 
+pub const fn wrong_stored(name: &'static str, stored: fn(&[u16]) -> u64) -> Wrong {
+    Wrong {
+        name,
+        stored,
+        ..RIGHT
+    }
+}
+
 pub const fn wrong_run(name: &'static str, run: fn(Run) -> u64) -> Wrong {
     Wrong { name, run, ..RIGHT }
 }
@@ -103,6 +113,10 @@ impl Library for Wrong {
 
     fn longest_free_run(&self, arena: &[u16], last_cell: u16) -> u64 {
         (self.longest_free_run)(arena, last_cell)
+    }
+
+    fn stored(&self, arena: &[u16]) -> u64 {
+        (self.stored)(arena)
     }
 
     fn run(&self, run: Run) -> u64 {

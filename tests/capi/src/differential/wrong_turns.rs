@@ -51,7 +51,7 @@ pub fn then(
 pub fn header_first(arena: &[u16], right: u64) -> u64 {
     let fits = |arena: &[u16]| {
         let shape = Shape::new(arena[0], arena[1], arena[2]);
-        shape.is_some_and(|shape| arena[..HEADER_WORDS] == shape.header())
+        shape.is_some_and(|shape| shape.is_header(&arena[..HEADER_WORDS]))
     };
     if right == u64::from(SHORT_ARENA) && arena.len() >= HEADER_WORDS && !fits(arena) {
         u64::from(ODD_HEADER)
