@@ -1,6 +1,6 @@
 -- Laws of a fresh arena.
 use Prim.Native.Nat.{ℕ, suc, ◌+◌, ◌*◌, ◌-◌, ◌≤◌, zero-le}
-use mathlib.Core.Path.{◌≡◌, refl, ap, ◌∙◌}
+use mathlib.Core.Path.{◌≡◌, ap, ◌∙◌}
 use mathlib.Core.List.{List, [], ◌++◌}
 use mathlib.Core.Bool.{true}
 use native.Mathlib.Omega.{arith}
@@ -8,15 +8,15 @@ use native.Mathlib.Decide.{ℕ_discrete}
 use native.Mathlib.Nat.{zero-add, mul-suc}
 use lib.ListN.{length, drop, set, replicate, length-append, replicate-append-replicate}
 use lib.Seq.{sets, sets-eq}
-use borrow.Author.Tests.{le-ltb, not-false, ltb-false}
+use borrow.Author.Tests.{not-false, ltb-false}
 use Rattle.worker.specs.Worker.{idle_worker}
 use Rattle.worker.specs.Node.{head, tail, head_node, tail_node, unused_node}
 use Rattle.words.specs.Layout.{header_width, worker_from, slot, node_key, node_next, node_width, header_words, total, good_counts}
 use Rattle.words.specs.Records.{worker_words, node_words}
 use Rattle.words.specs.Replies.{accepted, replied}
-use Rattle.words.specs.Header.{is_header, header_refusals}
+use Rattle.words.specs.Header.{header_refusals}
 use Rattle.words.proofs.Bounds.{counts, narrow}
-use Rattle.words.proofs.HeaderLaws.{header_of_some}
+use Rattle.words.proofs.Laid.{laid_passes}
 use Rattle.words.proofs.Judged.{none_holds}
 use Rattle.words.proofs.RecordLaws.{node_long}
 use Rattle.words.proofs.Runs.{sets_append, length_copies, flat_copies}
@@ -103,11 +103,8 @@ init_words arena layout workers nodes e =
 -- a fresh arena passes the header test, whatever words stand behind it
 pub fresh_header : (layout workers nodes : ℕ) (past : List ℕ) → good_counts layout workers nodes ≡ true →
     replied (header_refusals (fresh_words layout workers nodes ++ past)) [] ≡ accepted []
-unfolding header_refusals fresh_words header_words
+unfolding fresh_words fresh_workers
 fresh_header layout workers nodes past good =
-    let arena = fresh_words layout workers nodes ++ past in
-    let k = counts layout workers nodes good in
-    let l = fresh_length layout workers nodes (omega arith) in
-    let long : total layout workers nodes ≤ length arena = rw length-append (omega arith) in
-    let right : is_header arena ≡ true = (header_of_some arena (omega arith)).1 (layout, workers, nodes, 0, good, zero-le, refl) in
-    rw (le-ltb (length arena) header_width (omega arith), le-ltb (length arena) (total layout workers nodes) long, right)
+    let known = counts layout workers nodes good in
+    laid_passes layout workers nodes 0 (fresh_workers workers) (fresh_nodes (node_width layout) nodes) past good zero-le
+    (length_copies workers (worker_words idle_worker)) (fresh_nodes_length (node_width layout) nodes (narrow layout) (omega (arith, known)))

@@ -1,50 +1,50 @@
 -- What a snapshot has gathered once it has been shown every label, and what is judged then.
 use Prim.Native.Nat.{ℕ, suc, ◌+◌, ◌≤◌, ◌<◌}
 use mathlib.Core.Path.{◌≡◌, ap, ◌∙◌}
-use mathlib.Core.List.{List, [], ◌∷◌}
+use mathlib.Core.List.{List, [], ◌∷◌, map}
 use mathlib.Core.Bool.{Bool, cond}
 use native.Mathlib.Omega.{arith}
 use native.Mathlib.Nat.{add-zero, add-suc, suc-add}
 use lib.ListN.{length, take, drop, set, replicate, length-set, length-map, length-replicate}
 use lib.Seq.{sets, sets-eq, take_at}
 use borrow.Author.Tests.{lt-ltb, le-ltb}
-use Rattle.std.specs.List.{fold}
 use Rattle.worker.specs.Refusals.{judged}
 use Rattle.worker.specs.declared.refusal.Refusal.{Refusal}
 use Rattle.worker.specs.declared.refusal.Refusal.TheVariants.{NoRoom}
+use Rattle.words.specs.Records.{key_at}
 use Rattle.words.specs.Replies.{accepted, refusing, replied}
 use Rattle.words.proofs.Judged.{refused_first, accepted_first}
-use Rattle.arena.specs.declared.chain.Label.{Label}
 use Rattle.arena.specs.declared.keys.Keys.{Keys}
-use Rattle.arena.specs.Sets.{keys_in, chain_labels}
+use Rattle.arena.specs.Sets.{keys_in, label_at, shown, set_nodes, chain_labels}
 use Rattle.arena.specs.Snapshot.{chain_keys, chain_broken, chain_too_long, chain_refusals}
 use Rattle.arena.specs.Keys.{listed}
 use Rattle.arena.proofs.ShortChains.{chain_few}
 
--- where a row has room, the keys stand in it one behind the other, and are counted
-listed_all : (labels : List Label) (row : List ℕ) (count : ℕ) → count + length labels ≤ length row →
-    fold listed (record { row = row; count = count }) labels
-    ≡ record { row = sets row count (keys_in labels); count = count + length labels }
-listed_all [] row count room = rw add-zero
-listed_all (label ∷ labels) row count room =
-    let fits : count < length row = omega arith in
-    rw (lt-ltb _ _ fits, add-suc) (rw suc-add at (listed_all labels (set row count label.key) (suc count) (rw length-set (omega arith))))
-
 module _ (width : ℕ) (nodes : List ℕ) (count : ℕ) where
+  -- where a row has room, the keys stand in it one behind the other, and are counted
+  listed_all : (places row : List ℕ) (end : ℕ) → end + length places ≤ length row →
+      shown width nodes listed (record { row = row; count = end }) places
+      ≡ record { row = sets row end (keys_in (map (label_at width nodes) places)); count = end + length places }
+  listed_all [] row end room = rw add-zero
+  listed_all (place ∷ places) row end room =
+      let fits : end < length row = omega arith in
+      rw (lt-ltb _ _ fits, add-suc)
+      (rw suc-add at (listed_all places (set row end (key_at width nodes place)) (suc end) (rw length-set (omega arith))))
+
   abbrev keys : List ℕ
   keys = chain_keys width nodes count
 
   -- a row of 1,024 words holds the keys of every set
-  pub keys_listed : (all : Keys) → count ≤ 1024 → all ≡ fold listed (record { row = replicate 1024 0; count = 0 }) (chain_labels width nodes count) →
+  pub keys_listed : (all : Keys) → count ≤ 1024 → all ≡ shown width nodes listed (record { row = replicate 1024 0; count = 0 }) (set_nodes width nodes count) →
       (all.count ≡ length keys) × (length keys ≤ 1022) × (take all.count all.row ≡ keys)
-  unfolding chain_keys
-  keys_listed all few shown =
-      let labels = chain_labels width nodes count in
+  unfolding chain_keys chain_labels
+  keys_listed all few told =
+      let places = set_nodes width nodes count in
       let row : List ℕ = replicate 1024 0 in
       let long : length row ≡ 1024 = length-replicate {A = ℕ} 1024 0 in
-      let counted : length keys ≡ length labels = length-map labels _ in
+      let counted : length keys ≡ length places = rw (length-map, length-map) in
       let short = chain_few width nodes count in
-      let here : all ≡ record { row = sets row 0 keys; count = 0 + length labels } = shown ∙ listed_all labels row 0 (omega arith) in (
+      let here : all ≡ record { row = sets row 0 keys; count = 0 + length places } = told ∙ listed_all places row 0 (omega arith) in (
         rw here (omega arith),
         omega arith,
         rw (here, sets-eq keys row 0 (omega arith)) (take_at keys (drop (0 + length keys) row) _ (omega arith)),

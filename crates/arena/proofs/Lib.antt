@@ -4,6 +4,8 @@ pub mod FreshLaws
 pub mod StartLaws
 pub mod SetLaws
 pub mod ShortChains
+pub mod SameChains
 pub mod Walks
 pub mod KeyLaws
 pub mod SnapshotLaws
+pub mod RestLaws

@@ -1,12 +1,34 @@
--- Laws of lists: of what passes a test, and of lists in which every two elements are related.
-use mathlib.Core.Path.{◌≡◌, refl}
+-- Laws of lists: of numbers in a row, of what passes a test, and of lists in which every two elements are related.
+use Prim.Native.Nat.{ℕ, zero, suc, ◌+◌, ◌-◌, ◌<◌}
+use mathlib.Core.Path.{◌≡◌, refl, sym, ap, ◌∙◌}
 use mathlib.Core.Logic.{◌⊎◌, inl, inr, ⊎_elim}
 use mathlib.Core.List.Memᴰ
 use mathlib.Core.List.{List, [], ◌∷◌, Memᴰ, map}
 use mathlib.Core.Bool.{Bool, true, false, cond}
 use mathlib.Mathlib.Data.Bool.Basic.{dichotomy}
+use native.Mathlib.Omega.{arith}
+use native.Mathlib.Nat.{add-zero, add-suc, suc-add}
+use native.Mathlib.Numerals.{add-one, sub-one}
+use lib.ListN.{length, get_or}
 use Rattle.std.specs.List.{filter}
-use Rattle.arena.specs.Lists.{Each, none, ◌and◌, Pairs, alone, ◌ahead◌}
+use Rattle.arena.specs.Lists.{numbers_from, Each, none, ◌and◌, Pairs, alone, ◌ahead◌}
+
+-- numbers in a row: the first and the others, how many they are, and the one at a place
+pub numbers_on : (number left : ℕ) → 0 < left → numbers_from number left ≡ number ∷ numbers_from (number + 1) (left - 1)
+unfolding numbers_from
+numbers_on number zero some = absurd (omega arith)
+numbers_on number (suc left) some = rw (add-one, sub-one)
+
+pub numbers_length : (number left : ℕ) → length (numbers_from number left) ≡ left
+unfolding numbers_from
+numbers_length number zero = refl
+numbers_length number (suc left) = ap suc (numbers_length (suc number) left)
+
+pub numbers_at : (number left i default : ℕ) → i < left → get_or (numbers_from number left) i default ≡ number + i
+unfolding numbers_from
+numbers_at number zero i default there = absurd (omega arith)
+numbers_at number (suc left) zero default there = sym (add-zero number)
+numbers_at number (suc left) (suc i) default there = numbers_at (suc number) left i default (omega arith) ∙ rw (suc-add, add-suc)
 
 module _ {A : Type 0} where
   -- a list with one more in front or not holds what it did, and nothing else but that one

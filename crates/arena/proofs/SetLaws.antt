@@ -16,7 +16,7 @@ use Rattle.words.specs.Layout.{layout_of, nodes_of, node_width, node_part}
 use Rattle.words.specs.Records.{key_at, next_at}
 use Rattle.arena.specs.Lists.{Pairs, alone, ◌ahead◌}
 use Rattle.arena.specs.declared.chain.Label.{Label}
-use Rattle.arena.specs.Sets.{Rising, member, keys_in, is_none, label_at, is_unmarked, walk, chain, chain_nodes, chain_labels, node_in, label_in, ChainWhole, set_of, OnChain, top, link, InSet}
+use Rattle.arena.specs.Sets.{Rising, member, keys_in, is_none, label_at, is_unmarked, walk, chain, chain_nodes, set_nodes, chain_labels, node_in, label_in, ChainWhole, set_of, OnChain, top, link, InSet}
 use Rattle.arena.proofs.ListLaws.{in_filter, from_filter, each_of, pairs_filter, pairs_map}
 
 -- a key is a member where it is one of the keys
@@ -36,6 +36,11 @@ member_key key labels = (forth labels, back labels)
         ⊎_elim (λ same. rw (eq-eqb key label.key same)) (λ there. rw (back labels there) (or-true (eqb key label.key)))
         (Memᴰ.cases_cons m)
 
+-- a node of the chain is one of the nodes
+pub chain_below : {next : ℕ → ℕ} {count n : ℕ} → OnChain next count n → n < count
+chain_below (top low) = low
+chain_below (link on more low) = low
+
 -- nodes below a count that links lead through from one node up to Tail, each with a key above the last
 pub data Walked (count : ℕ) (key next : ℕ → ℕ) : ℕ → ℕ → List ℕ → Type 0 where
   ended : {last node : ℕ} → node ≡ tail → Walked count key next last node []
@@ -48,6 +53,12 @@ module _ {count : ℕ} {key next : ℕ → ℕ} where
   walked_above (ended e) m = absurd (Memᴰ.not-nil m)
   walked_above (passed h low above onward) m =
       ⊎_elim (λ same. rw same above) (λ there. omega (arith, walked_above onward there)) (Memᴰ.cases_cons m)
+
+  -- and is one of the nodes
+  walked_below : {last node n : ℕ} {nodes : List ℕ} → Walked count key next last node nodes → Memᴰ n nodes → n < count
+  walked_below (ended e) m = absurd (Memᴰ.not-nil m)
+  walked_below (passed h low above onward) m =
+      ⊎_elim (λ same. rw same low) (λ there. walked_below onward there) (Memᴰ.cases_cons m)
 
   walked_rises : {last node : ℕ} {nodes : List ℕ} → Walked count key next last node nodes → Pairs (λ a b. key a < key b) nodes
   walked_rises (ended e) = alone
@@ -124,9 +135,17 @@ module _ (width : ℕ) (words : List ℕ) (count : ℕ) where
   unfolding chain
   chain_walked = walk_walked 65536 (key_at width words head) (next_at width words head)
 
+  -- a node of the set is one of the nodes
+  pub set_nodes_below : {node : ℕ} → Memᴰ node (set_nodes width words count) → node < count
+  unfolding set_nodes chain_nodes
+  set_nodes_below {node} m =
+      or_empty {Holds = λ found. Memᴰ node found → node < count} (chain width words count) (λ broken here. absurd (Memᴰ.not-nil here))
+      (λ nodes e here. walked_below (chain_walked nodes e) here)
+      (from_filter (is_unmarked width words) m).0
+
   -- the labels of the unmarked ones rise: the walk passes a node only where its key is above the last, and a broken chain has no nodes
   labels_rise : Rising (chain_labels width words count)
-  unfolding chain_labels chain_nodes
+  unfolding chain_labels set_nodes chain_nodes
   labels_rise =
       pairs_map (label_at width words)
       (pairs_filter (is_unmarked width words) (or_empty (chain width words count) (λ broken. alone) (λ nodes e. walked_rises (chain_walked nodes e))))
@@ -183,7 +202,7 @@ module _ (arena : List ℕ) where
 
   -- and where the chain is whole, its labels are those of document 01's words
   pub set_members : ChainWhole arena → (label : Label) → Memᴰ label (set_of arena) ↔ InSet arena label
-  unfolding set_of chain_labels
+  unfolding set_of chain_labels set_nodes
   set_members whole label = (forth, back)
     where
       forth : Memᴰ label (set_of arena) → InSet arena label

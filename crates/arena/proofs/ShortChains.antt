@@ -15,7 +15,7 @@ use Rattle.std.proofs.lemmas.List.Sums.{length-filter, count_by-le-length}
 use Rattle.worker.specs.Node.{head}
 use Rattle.words.specs.Layout.{layout_of, nodes_of, node_width, node_part}
 use Rattle.words.specs.Records.{key_at}
-use Rattle.arena.specs.Sets.{is_unmarked, chain_nodes, chain_labels, set_of, OnChain, top, link}
+use Rattle.arena.specs.Sets.{is_unmarked, chain_nodes, set_nodes, chain_labels, set_of, OnChain, top, link}
 use Rattle.arena.specs.Snapshot.{chain_keys, keys_of}
 use Rattle.arena.proofs.SetLaws.{Walked, ended, passed, walked_on, or_empty, chain_walked, key_of, next_of}
 
@@ -98,14 +98,19 @@ module _ (width : ℕ) (nodes : List ℕ) (count : ℕ) where
         above_few (key_at width nodes) (key_at width nodes head) (count - 2),
       ))
 
+  -- so the nodes of a set are few, and their keys
+  pub set_few : length (set_nodes width nodes count) ≤ count - 2
+  unfolding set_nodes
+  set_few = omega (arith, nodes_few, length-filter (is_unmarked width nodes) (chain_nodes width nodes count), count_by-le-length (is_unmarked width nodes) (chain_nodes width nodes count))
+
   pub chain_few : length (chain_keys width nodes count) ≤ count - 2
   unfolding chain_keys chain_labels
-  chain_few = rw (length-map, length-map) (omega (arith, nodes_few, length-filter (is_unmarked width nodes) (chain_nodes width nodes count), count_by-le-length (is_unmarked width nodes) (chain_nodes width nodes count)))
+  chain_few = rw (length-map, length-map) set_few
 
 -- and the set of an arena with a node that is not on the chain has fewer labels
 pub set_fewer : (arena : List ℕ) (off : ℕ) → 2 ≤ off → off < nodes_of arena → (OnChain (next_of arena) (nodes_of arena) off → ⊥) →
     length (set_of arena) < nodes_of arena - 2
-unfolding set_of chain_labels chain_nodes
+unfolding set_of chain_labels set_nodes chain_nodes
 set_fewer arena off from to out =
     let unmarked = is_unmarked (node_width (layout_of arena)) (node_part arena) in
     rw length-map

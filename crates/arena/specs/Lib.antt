@@ -6,3 +6,4 @@ pub mod Sets
 pub mod Snapshot
 pub mod Stored
 pub mod Keys
+pub mod AtRest

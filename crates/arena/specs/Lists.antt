@@ -1,5 +1,10 @@
--- Lists of whose elements something holds, and lists in which every two are related.
-use Rattle.std.specs.Prelude.{List, [], ◌∷◌}
+-- Numbers in a row, lists of whose elements something holds, and lists in which every two are related.
+use Rattle.std.specs.Prelude.{ℕ, zero, suc, List, [], ◌∷◌}
+
+-- so many numbers, from one on
+unfoldable pub numbers_from : ℕ → ℕ → List ℕ
+numbers_from number zero = []
+numbers_from number (suc left) = number ∷ numbers_from (suc number) left
 
 -- what holds of every element of a list
 infixr 5 ◌and◌

@@ -1,7 +1,7 @@
 -- The chain of an arena, and its set (document 01: the keys of unmarked nodes on the chain, Head and Tail left out; document 02, A2: each
 -- with its length). A snapshot lists the keys of this set (document 02, A3), and demand 3 speaks of it.
 use Rattle.std.specs.Prelude.{ℕ, zero, suc, ◌<◌, ◌≡◌, ◌≢◌, List, [], ◌∷◌, map, Bool, true, false, cond, ◌&&◌, ◌||◌, ltb, eqb}
-use Rattle.std.specs.List.{filter}
+use Rattle.std.specs.List.{fold, filter}
 use Rattle.std.proofs.Math.Option
 use Rattle.std.proofs.Math.Option.{Option, none, some, get_or}
 use Rattle.worker.specs.Node.{head, tail}
@@ -30,15 +30,16 @@ is_none (some a) = false
 
 -- in node records of some width
 module _ (width : ℕ) (nodes : List ℕ) where
-  -- the label that a node holds, and those of the nodes that are not marked
+  -- the label that a node holds, and whether it is not marked
   abbrev pub label_at : ℕ → Label
   label_at node = record { key = (node_at width nodes node).key; length = (node_at width nodes node).length }
 
   abbrev pub is_unmarked : ℕ → Bool
   is_unmarked node = eqb (node_at width nodes node).mark 0
 
-  abbrev pub labels_at : List ℕ → List Label
-  labels_at places = map label_at (filter is_unmarked places)
+  -- what becomes of a visitor that is shown some nodes, each with its label
+  abbrev pub shown : {A : Type 0} → (A → ℕ → Label → A) → A → List ℕ → A
+  shown visited = fold (λ visitor node. visited visitor node (label_at node))
 
   -- and with so many of them
   module _ (count : ℕ) where
@@ -60,9 +61,12 @@ module _ (width : ℕ) (nodes : List ℕ) where
     unfoldable pub chain_nodes : List ℕ
     chain_nodes = get_or chain []
 
-    -- the labels of the unmarked ones, in chain order
+    -- the unmarked ones, which are the nodes of the set, and their labels, in chain order
+    unfoldable pub set_nodes : List ℕ
+    set_nodes = filter is_unmarked chain_nodes
+
     unfoldable pub chain_labels : List Label
-    chain_labels = labels_at chain_nodes
+    chain_labels = map label_at set_nodes
 
 -- a node of an arena
 abbrev pub node_in : List ℕ → ℕ → Node
@@ -78,6 +82,10 @@ walk_of arena = chain (node_width (layout_of arena)) (node_part arena) (nodes_of
 -- the chain is whole: the walk comes to Tail, by links below N and with rising keys
 abbrev pub ChainWhole : List ℕ → Type 0
 ChainWhole arena = is_none (walk_of arena) ≡ false
+
+-- the nodes of the set, in chain order
+abbrev pub nodes_of_set : List ℕ → List ℕ
+nodes_of_set arena = set_nodes (node_width (layout_of arena)) (node_part arena) (nodes_of arena)
 
 -- the set: a rising list (`SetLaws.set_rises`), with just the labels of document 01's words, below (`SetLaws.set_members`)
 unfoldable pub set_of : List ℕ → List Label

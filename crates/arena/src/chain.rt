@@ -1,8 +1,7 @@
 // The chain from Head to Tail, and the labels of its unmarked nodes, one after another.
 ghost use Rattle.std.specs.Prelude.{◌≡◌, [], ◌∷◌, IfOk};
-ghost use Rattle.std.specs.List.{fold};
 ghost use Rattle.words.specs.Replies.{no_values, reply, replied};
-ghost use Rattle.arena.specs.Sets.{chain_labels};
+ghost use Rattle.arena.specs.Sets.{shown, set_nodes};
 ghost use Rattle.arena.specs.Snapshot.{chain_broken};
 
 use words::Nodes;
@@ -15,14 +14,15 @@ pub struct Label {
     pub length: u16,
 }
 
-// What the labels of a set are shown to, one after another.
+// What the labels of a set are shown to, one after another, each with the number of its node.
 pub trait Visitor {
+    ghost use Rattle.std.specs.Prelude.{ℕ};
     ghost use Rattle.arena.specs.declared.chain.Label.{Label};
 
-    ghost visited: { Self → Label → Self };
+    ghost visited: { Self → ℕ → Label → Self };
 
-    fn visit(&mut self, label: Label)
-        ensures { self.new ≡ visited self.old label };
+    fn visit(&mut self, node: u16, label: Label)
+        ensures { self.new ≡ visited self.old node label };
 }
 
 // Walks from Head to Tail and shows the labels of the unmarked nodes between, which is the set. A marked node is passed over, but its link and
@@ -30,8 +30,8 @@ pub trait Visitor {
 pub fn visit_labels<V: Visitor>(nodes: Nodes, visitor: &mut V) -> Result<(), Refusal>
     ensures answer { reply no_values result ≡ replied
         (chain_broken nodes.entry.width nodes.entry.words.now nodes.entry.count ∷ []) [] }
-    ensures visitor { IfOk result (λ done. visitor.new ≡ fold V.visited visitor.old
-        (chain_labels nodes.entry.width nodes.entry.words.now nodes.entry.count)) }
+    ensures visitor { IfOk result (λ done. visitor.new ≡ shown nodes.entry.width nodes.entry.words.now V.visited visitor.old
+        (set_nodes nodes.entry.width nodes.entry.words.now nodes.entry.count)) }
 {
     let head = nodes.get(Node::HEAD);
     let mut last = head.key;
@@ -43,10 +43,11 @@ pub fn visit_labels<V: Visitor>(nodes: Nodes, visitor: &mut V) -> Result<(), Ref
             _ => return Err(Refusal::BrokenChain),
         };
         if node.mark == 0 {
-            visitor.visit(Label {
+            let label = Label {
                 key: node.key,
                 length: node.length,
-            });
+            };
+            visitor.visit(at, label);
         }
         last = node.key;
         at = node.next;

@@ -18,7 +18,7 @@ struct Keys {
 impl Visitor for Keys {
     ghost visited = { listed };
 
-    fn visit(&mut self, label: Label) {
+    fn visit(&mut self, _node: u16, label: Label) {
         let end = self.count as usize;
         if end < self.row.len() {
             self.row[end] = label.key;

@@ -55,11 +55,11 @@ impl Search {
 }
 
 impl Visitor for Search {
-    ghost visited = { met };
+    ghost visited = { λ search node. met search };
 
     // A label of length 0 covers nothing, and ends no run.
     #[tactic(auto, unfolding(crate::specs::Search::met))]
-    fn visit(&mut self, label: Label) {
+    fn visit(&mut self, _node: u16, label: Label) {
         if label.length != 0 {
             let behind = (label.key as u32) + (label.length as u32);
             self.longest = self.longer(label.key.min(self.end));

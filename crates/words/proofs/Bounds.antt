@@ -5,6 +5,7 @@ use mathlib.Core.Bool.{Bool, true, false, cond, and-eq-true_iff}
 use native.Mathlib.Omega.{arith}
 use native.Mathlib.Decide.{ℕ_discrete}
 use lib.Dec.{eqb}
+use borrow.Author.Tests.{le-leb}
 use Rattle.worker.specs.Worker.{within}
 use Rattle.worker.proofs.Laws.{range_bounds}
 use Rattle.words.specs.Layout.{good_counts, has_count, most_stored, node_width, worker_from, total}
@@ -25,6 +26,18 @@ counts layout workers nodes e =
     let w = range_bounds 1 8 workers both.1 in
     let n = range_bounds 3 1024 nodes all.1 in
     record { some_layout = l.0; few_layouts = l.1; some_workers = w.0; few_workers = w.1; some_nodes = n.0; few_nodes = n.1 }
+
+-- and the other way round
+pub counts_good : {layout workers nodes : ℕ} → Counts layout workers nodes → good_counts layout workers nodes ≡ true
+counts_good k =
+    rw (
+      le-leb _ _ k.some_layout,
+      le-leb _ _ k.few_layouts,
+      le-leb _ _ k.some_workers,
+      le-leb _ _ k.few_workers,
+      le-leb _ _ k.some_nodes,
+      le-leb _ _ k.few_nodes,
+    )
 
 -- one word more in layout 2
 pub width_sum : {layout : ℕ} → 1 ≤ layout → layout ≤ 2 → node_width layout ≡ layout + 3

@@ -4,8 +4,9 @@ use mathlib.Core.Path.{◌≡◌, refl, sym, ap, ◌∙◌}
 use mathlib.Core.List.{List, [], ◌∷◌, ◌++◌, map, map-append, append-nil, append_assoc, flatten}
 use native.Mathlib.Omega.{arith}
 use native.Mathlib.Nat.{zero-add, add-suc, suc-add, mul-suc, mul-add}
-use lib.ListN.{length, get_or, set, drop, length-append, length-map, length-drop}
-use lib.Seq.{sets, sets-eq, drop-append_seam, drop-drop}
+use lib.ListN.{length, get_or, set, drop, length-append, length-map, length-drop, get_or-append}
+use lib.Seq.{sets, sets-eq, get_or-append-add, drop-append_seam, drop-drop}
+use Rattle.words.specs.Layout.{word, slot}
 use Rattle.words.specs.Flat.{flat_words, record_in, with_record, IsRecord}
 use Rattle.words.proofs.Runs.{sets_append}
 
@@ -35,6 +36,24 @@ unfolding flatten
 flat_append words [] ys = refl
 flat_append words (x ∷ xs) ys = rw (flat_append words xs ys) (sym (append_assoc (words x) (flat_words words xs) (flat_words words ys)))
 
+-- of records that all have as many words: how many there are, and the one at a place
+module _ {A : Type 0} {width : ℕ} (words : A → List ℕ) (wide : (x : A) → length (words x) ≡ width) where
+  pub flat_long : (xs : List A) → length (flat_words words xs) ≡ width * length xs
+  unfolding flatten
+  flat_long [] = omega arith
+  flat_long (x ∷ xs) = rw (length-append, wide x, flat_long xs, mul-suc) (omega arith)
+
+  pub flat_at : (xs : List A) (i field : ℕ) (default : A) → i < length xs → field < width →
+      word (flat_words words xs) (slot width i field) ≡ word (words (get_or xs i default)) field
+  unfolding flatten
+  flat_at [] i field default there room = absurd (omega arith)
+  flat_at (x ∷ xs) zero field default there room =
+      let place : slot width 0 field ≡ field = omega arith in
+      rw place (get_or-append (words x) (flat_words words xs) 0 field (omega (arith, wide x)))
+  flat_at (x ∷ xs) (suc i) field default there room =
+      let place : slot width (suc i) field ≡ length (words x) + slot width i field = rw (wide x, mul-suc) (omega arith) in
+      rw place (get_or-append-add (words x) (flat_words words xs) (slot width i field) 0 ∙ flat_at xs i field default (omega arith) room)
+
 module _ {A : Type 0} {width : ℕ} {words : A → List ℕ} {first : List ℕ → A} (laws : IsRecord width words first) where
   -- a record is read from its words, first and behind another
   pub read_first : (x : A) (rest : List ℕ) → record_in width first (words x ++ rest) 0 ≡ x
@@ -50,9 +69,7 @@ module _ {A : Type 0} {width : ℕ} {words : A → List ℕ} {first : List ℕ �
       rw place (ap first (sym (drop-drop (width * i) (length (words x)) (words x ++ rest)) ∙ ap (drop (width * i)) (drop-append_seam (words x) rest)))
 
   pub flat_length : (xs : List A) → length (flat_words words xs) ≡ width * length xs
-  unfolding flatten
-  flat_length [] = omega arith
-  flat_length (x ∷ xs) = rw (length-append, laws.wide x, flat_length xs, mul-suc) (omega arith)
+  flat_length = flat_long words laws.wide
 
   -- record i of some records, read and written
   pub flat_read : (xs : List A) (rest : List ℕ) (i : ℕ) (default : A) → i < length xs →

@@ -10,9 +10,10 @@ use lib.ListN.{length, take, drop, length-drop}
 use lib.Seq.{get_or-take, length-take-le, ext_get_or}
 use lib.Dec.{leb, eqb}
 use borrow.Author.Tests.{eqb-true, eq-eqb, leb-true, le-leb, ltb-false, not-false}
+use Rattle.worker.proofs.RefusalLaws.{NoneHolds, none_accepts}
 use Rattle.words.specs.Layout.{word, header_width, nodes_from, total, node_width, node_part, good_counts, most_stored, header_words, layout_of, workers_of, nodes_of, nodes_from_of, total_of, stored_of}
 use Rattle.words.specs.Records.{Spans}
-use Rattle.words.specs.Replies.{accepted, replied}
+use Rattle.words.specs.Replies.{accepted, refusing, replied}
 use Rattle.words.specs.Header.{agrees, is_header, HeaderOfSome, header_refusals}
 use Rattle.words.proofs.Bounds.{Counts, counts, wide}
 use Rattle.words.proofs.Judged.{none_holds}
@@ -34,6 +35,18 @@ agrees_all words (v ∷ vs) at same =
     rw (eq-eqb (word words at) v (rw add-zero at (same 0 (omega arith))))
     (agrees_all words vs (suc at) (λ k h. rw (suc-add, ← add-suc) (same (suc k) (omega arith))))
 
+-- the header that the numbers of an arena give; where it agrees, it stands there
+abbrev pub own_header : List ℕ → List ℕ
+own_header arena = header_words (layout_of arena) (workers_of arena) (nodes_of arena) (stored_of arena)
+
+own_stands : (arena : List ℕ) → header_width ≤ length arena → agrees arena 0 (own_header arena) ≡ true → take header_width arena ≡ own_header arena
+unfolding header_words
+own_stands arena h e =
+    let each : (k : ℕ) → k < 8 → word (take header_width arena) k ≡ word (own_header arena) k
+    = λ k l. get_or-take header_width arena k 0 l ∙ rw zero-add at (agrees_at arena (own_header arena) 0 k e l) in
+    let long : length (take header_width arena) ≡ 8 = length-take-le header_width arena h in
+    ext_get_or 0 (take header_width arena) (own_header arena) long (λ k l. each k (omega arith))
+
 -- what stands in the header of an arena that is not refused
 pub record Header (arena : List ℕ) : Type 0 where
   pub long : header_width ≤ length arena
@@ -42,14 +55,11 @@ pub record Header (arena : List ℕ) : Type 0 where
   pub from : nodes_from_of arena ≡ nodes_from (workers_of arena)
   pub end : total_of arena ≡ total (layout_of arena) (workers_of arena) (nodes_of arena)
   pub few_stored : stored_of arena ≤ most_stored (layout_of arena) (nodes_of arena)
+  pub own : take header_width arena ≡ own_header arena
 
-or_false : (a b : Bool) → (a || b) ≡ false → (a ≡ false) × (b ≡ false)
+pub or_false : (a b : Bool) → (a || b) ≡ false → (a ≡ false) × (b ≡ false)
 or_false true b e = (e, absurd (true≢false e))
 or_false false b e = (refl, e)
-
--- the header that the numbers of an arena give
-abbrev own_header : List ℕ → List ℕ
-own_header arena = header_words (layout_of arena) (workers_of arena) (nodes_of arena) (stored_of arena)
 
 pub header_holds : (arena : List ℕ) {values : List ℕ} → accepted values ≡ replied (header_refusals arena) [] → Header arena
 unfolding header_refusals is_header header_words
@@ -65,7 +75,12 @@ header_holds arena e =
       from = agrees_at arena (own_header arena) 0 4 all.1 (omega arith);
       end = agrees_at arena (own_header arena) 0 5 all.1 (omega arith);
       few_stored = leb-true _ _ numbers.1;
+      own = own_stands arena (ltb-false _ _ short.0) all.1;
     }
+
+-- as it is where none of the refusals holds
+pub header_of : (arena : List ℕ) → NoneHolds (header_refusals arena) → Header arena
+header_of arena none = header_holds arena (sym (none_accepts (header_refusals arena) refusing (accepted []) none))
 
 -- the node records have as many words as the nodes need
 pub part_long : (arena : List ℕ) → Header arena → length (node_part arena) ≡ node_width (layout_of arena) * nodes_of arena
@@ -93,11 +108,7 @@ header_of_some arena h = (forth, back)
     forth e =
         let all = (and-eq-true_iff _ _).0 e in
         let numbers = (and-eq-true_iff _ _).0 all.0 in
-        let each : (k : ℕ) → k < 8 → word (take header_width arena) k ≡ word own k
-        = λ k l. get_or-take header_width arena k 0 l ∙ rw zero-add at (agrees_at arena own 0 k all.1 l) in
-        let long : length (take header_width arena) ≡ 8 = length-take-le header_width arena h in
-        let same : take header_width arena ≡ own = ext_get_or 0 (take header_width arena) own long (λ k l. each k (omega arith)) in
-        (layout_of arena, workers_of arena, nodes_of arena, stored_of arena, numbers.0, leb-true _ _ numbers.1, same)
+        (layout_of arena, workers_of arena, nodes_of arena, stored_of arena, numbers.0, leb-true _ _ numbers.1, own_stands arena h all.1)
 
     back : HeaderOfSome arena → is_header arena ≡ true
     back p =

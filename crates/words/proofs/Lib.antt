@@ -3,6 +3,7 @@ pub mod Runs
 pub mod Bounds
 pub mod Judged
 pub mod HeaderLaws
+pub mod Laid
 pub mod RecordLaws
 pub mod Slots
 pub mod FlatLaws

@@ -1,21 +1,86 @@
 -- Laws of records: how many words a node has, and a worker's record in an arena.
-use Prim.Native.Nat.{ℕ, ◌+◌, ◌≤◌, ◌<◌}
-use mathlib.Core.Path.{◌≡◌, subst}
+use Prim.Native.Nat.{ℕ, ◌+◌, ◌*◌, ◌≤◌, ◌<◌}
+use mathlib.Core.Path.{◌≡◌, refl, sym, subst, ◌∙◌}
 use mathlib.Core.Logic.{⊎_elim}
 use mathlib.Core.List.{List, [], ◌∷◌}
 use native.Mathlib.Omega.{arith}
 use native.Mathlib.Nat.{add-zero}
-use lib.ListN.{length}
-use lib.Seq.{sets, length-take-le}
+use lib.ListN.{length, take, drop, get_or-eq_default}
+use lib.Seq.{sets, get_or-take, get_or-drop, length-take-le}
+use mathlib.Core.Bool.{Bool, true, false, cond}
+use Rattle.worker.specs.Node.{unused_node}
 use Rattle.worker.specs.declared.Node.{Node}
 use Rattle.worker.specs.declared.Worker.{Worker}
-use Rattle.words.specs.Layout.{word, worker_width, worker_from}
-use Rattle.words.specs.Records.{node_words, worker_words, worker_at, with_worker, Outside}
+use Rattle.words.specs.Layout.{word, header_width, worker_width, worker_stage, worker_operation, worker_key, worker_pred, worker_curr, worker_spare, worker_answer, worker_length, worker_from, slot, has_length, workers_of, worker_part}
+use Rattle.words.specs.Records.{node_words, node_at, worker_words, worker_at, with_worker, Outside}
+use Rattle.words.proofs.Slots.{slot_within}
 use Rattle.words.proofs.Runs.{sets_outside, sets_at, run, sets_run}
 
 -- a node has as many words as its width says
 pub node_long : (width : ℕ) (n : Node) → width ≤ 5 → length (node_words width n) ≡ width
 node_long width n few = length-take-le width (n.key ∷ n.next ∷ n.mark ∷ n.owner ∷ n.length ∷ []) few
+
+-- where there are no words for a node, it is read as zeros
+pub no_node_there : (width : ℕ) (l : List ℕ) (node : ℕ) → length l ≤ width * node → node_at width l node ≡ unused_node
+unfolding node_at
+no_node_there width l node past =
+    λ i.
+    record {
+      key = zero_at 0 i;
+      next = zero_at 1 i;
+      mark = zero_at 2 i;
+      owner = zero_at 3 i;
+      length = longer (has_length width) i;
+    }
+  where
+    zero_at : (f : ℕ) → word l (slot width node f) ≡ 0
+    zero_at f = get_or-eq_default l 0 (omega arith)
+
+    longer : (t : Bool) → cond t (word l (slot width node 4)) 0 ≡ 0
+    longer true = zero_at 4
+    longer false = refl
+
+-- a worker's record of given words
+abbrev pub record_of : (ℕ → ℕ) → Worker
+record_of field =
+    record {
+      stage = field worker_stage;
+      operation = field worker_operation;
+      key = field worker_key;
+      pred = field worker_pred;
+      curr = field worker_curr;
+      spare = field worker_spare;
+      answer = field worker_answer;
+      length = field worker_length;
+    }
+
+-- that record is read where these words stand
+pub record_words : (arena : List ℕ) (worker : ℕ) (field : ℕ → ℕ) →
+    ((k : ℕ) → k < worker_width → word arena (worker_from worker + k) ≡ field k) → worker_at arena worker ≡ record_of field
+unfolding worker_at
+record_words arena worker field same =
+    λ i. record {
+      stage = same worker_stage (omega arith) i;
+      operation = same worker_operation (omega arith) i;
+      key = same worker_key (omega arith) i;
+      pred = same worker_pred (omega arith) i;
+      curr = same worker_curr (omega arith) i;
+      spare = same worker_spare (omega arith) i;
+      answer = same worker_answer (omega arith) i;
+      length = same worker_length (omega arith) i;
+    }
+
+-- a worker that there is has its record among the worker records
+pub record_in_part : (arena : List ℕ) (worker : ℕ) → worker < workers_of arena →
+    worker_at arena worker ≡ record_of (λ k. word (worker_part arena) (slot worker_width worker k))
+unfolding worker_part
+record_in_part arena worker there =
+    record_words arena worker (λ k. word (take (worker_width * workers_of arena) (drop header_width arena)) (slot worker_width worker k))
+    (λ k inside.
+    let place : worker_from worker + k ≡ header_width + slot worker_width worker k = omega arith in
+    rw place
+    (sym (get_or-take (worker_width * workers_of arena) (drop header_width arena) (slot worker_width worker k) 0 (slot_within worker_width worker (workers_of arena) k there inside)
+    ∙ get_or-drop header_width arena (slot worker_width worker k) 0)))
 
 module _ (arena : List ℕ) (worker : ℕ) (w : Worker) where
   -- the record that was written is read back

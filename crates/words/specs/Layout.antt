@@ -128,6 +128,10 @@ stored_of arena = word arena stored_at
 abbrev pub stored_in : List ℕ → Option ℕ
 stored_in arena = cond (has_count (layout_of arena)) (Some (stored_of arena)) None
 
+-- the worker records: the part behind the header
+unfoldable pub worker_part : List ℕ → List ℕ
+worker_part arena = take (worker_width * workers_of arena) (drop header_width arena)
+
 -- the node records: the part from the node offset to the total
 unfoldable pub node_part : List ℕ → List ℕ
 node_part arena = take (total_of arena - nodes_from_of arena) (drop (nodes_from_of arena) arena)

@@ -32,6 +32,12 @@ impl<'a> Arena<'a> {
         Ok(Arena { words })
     }
 
+    pub fn layout(self) -> u16
+        ensures { result ≡ layout_of self.entry.words.now }
+    {
+        word(self.words, layout::LAYOUT_AT)
+    }
+
     // W.
     pub fn worker_count(self) -> u16
         ensures { result ≡ workers_of self.entry.words.now }

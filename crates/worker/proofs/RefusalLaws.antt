@@ -26,6 +26,15 @@ abbrev pub NoneHolds : List Test → Type 0
 NoneHolds [] = Unit {0}
 NoneHolds (r ∷ rs) = (r.0 ≡ false) × NoneHolds rs
 
+-- of two lists, one behind the other, none holds exactly where none of either does
+pub none_of_both : (rs ss : List Test) → NoneHolds (rs ++ ss) → NoneHolds rs × NoneHolds ss
+none_of_both [] ss none = (tt, none)
+none_of_both (r ∷ rs) ss none = let both = none_of_both rs ss none.1 in ((none.0, both.0), both.1)
+
+pub none_in_both : (rs ss : List Test) → NoneHolds rs → NoneHolds ss → NoneHolds (rs ++ ss)
+none_in_both [] ss first second = second
+none_in_both (r ∷ rs) ss first second = (first.0, none_in_both rs ss first.1 second)
+
 -- where a judgement is what no refusal gives, no test holds, and it is what is accepted
 pub judged_passed : {A : Type 0} (rs : List Test) (refuse : Refusal → A) (accept other : A) → ((refusal : Refusal) → refuse refusal ≡ other → ⊥) →
     judged rs refuse accept ≡ other → NoneHolds rs × (accept ≡ other)

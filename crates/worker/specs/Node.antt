@@ -16,9 +16,13 @@ no_node = 65535
 abbrev pub new_node : ℕ → ℕ → ℕ → Node
 new_node key next length = record { key = key; next = next; mark = 0; owner = 0; length = length }
 
+-- a node with another length
+abbrev pub with_length : Node → ℕ → Node
+with_length n length = record { key = n.key; next = n.next; mark = n.mark; owner = n.owner; length = length }
+
 -- a node but for its length, which no turn and no walk along the chain looks at
 abbrev pub without_length : Node → Node
-without_length n = record { key = n.key; next = n.next; mark = n.mark; owner = n.owner; length = 0 }
+without_length n = with_length n 0
 
 -- Head's key is 0 and its next 1, Tail's key 65,535 and its next 1; every length is 0
 abbrev pub head_node : Node

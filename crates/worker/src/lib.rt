@@ -164,7 +164,7 @@ fn carries(lengths: bool, operation: u16, key: u16, length: u16) -> bool
     }
 }
 
-fn is_length(key: u16, length: u16) -> bool
+pub fn is_length(key: u16, length: u16) -> bool
     ensures { result ≡ is_length key length }
 {
     is_within(length, 1, 65534) & ((key as u32) + (length as u32) <= 65535)

@@ -3,7 +3,7 @@
 use Prim.Native.Nat.{ℕ, ◌+◌, ◌≤◌, ◌<◌, ◌-◌}
 use mathlib.Core.Path.{◌≡◌}
 use Rattle.arena.specs.Sets.{walk}
-use Rattle.arena.proofs.Walks.{shown}
+use Rattle.arena.proofs.Walks.{told}
 use Rattle.arena.proofs.chain.visit_labels.Given as goal
 
 abbrev pub invariant-loop-at : goal.invariant-loop-at
@@ -11,8 +11,8 @@ invariant-loop-at g l =
     (l.last < 65536)
     × (steps : ℕ)
     × (65536 ≤ l.last + steps)
-    × (shown l.nodes.width l.nodes.words.now l.nodes.count g.V.Visitor.visited l.initial.visitor (walk l.nodes.width l.nodes.words.now l.nodes.count 65536 l.initial.last l.initial.at)
-    ≡ shown l.nodes.width l.nodes.words.now l.nodes.count g.V.Visitor.visited l.visitor (walk l.nodes.width l.nodes.words.now l.nodes.count steps l.last l.at))
+    × (told l.nodes.width l.nodes.words.now l.nodes.count g.V.Visitor.visited l.initial.visitor (walk l.nodes.width l.nodes.words.now l.nodes.count 65536 l.initial.last l.initial.at)
+    ≡ told l.nodes.width l.nodes.words.now l.nodes.count g.V.Visitor.visited l.visitor (walk l.nodes.width l.nodes.words.now l.nodes.count steps l.last l.at))
 
 abbrev pub decreases-loop-at : goal.decreases-loop-at
 decreases-loop-at g l = 65536 - l.last
