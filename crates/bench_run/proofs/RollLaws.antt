@@ -5,8 +5,8 @@ use mathlib.Core.List.{List, [], ◌∷◌}
 use native.Mathlib.Omega.{arith}
 use lib.ListN.{length, replicate, length-replicate}
 use Rattle.words.specs.Replies.{refused, accepted}
-use Rattle.words.proofs.Bounds.{counts}
 use Rattle.arena.specs.Snapshot.{keys_of, snapshot_answer, Listed}
+use Rattle.linear.proofs.Bridge.{sound_counts}
 use Rattle.linear.proofs.Timeline.{Schedule, arena, sound}
 use Rattle.linear.proofs.TrueSnapshots.{all_true}
 
@@ -22,4 +22,4 @@ module _ (words keys : List ℕ) (listed : Listed words keys) where
 pub roll_fits : (r : Schedule) (time : ℕ) → Listed (arena r time) (replicate 1024 0)
 roll_fits r time =
     (all_true r time).lists (replicate 1024 0)
-    (rw length-replicate (omega (arith, (sound r time).nodes_are, counts r.layout r.workers r.nodes r.good)))
+    (rw length-replicate (omega (arith, (sound r time).nodes_are, sound_counts r.begins_sound)))

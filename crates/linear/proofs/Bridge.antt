@@ -22,6 +22,7 @@ use Rattle.words.specs.Layout.{layout_of, workers_of, nodes_of, stored_in}
 use Rattle.words.specs.Records.{worker_at, with_worker}
 use Rattle.words.specs.Replies.{Reply, refused, accepted, replied}
 use Rattle.words.specs.Header.{header_refusals}
+use Rattle.words.proofs.Bounds.{Counts}
 use Rattle.words.proofs.Judged.{none_holds, numbered, judged_numbered, judged_accepted}
 use Rattle.words.specs.declared.entry.Entry.{Entry}
 use Rattle.arena.specs.Start.{call_refusals, start_refusals, start_arena}
@@ -30,9 +31,10 @@ use Rattle.lazy.specs.Turn.{outcome_of, seen_of, seen_by, worker_refusals, misco
 use Rattle.lazy.proofs.ChangeLaws.{CountFits, count_stays}
 use Rattle.lazy.proofs.TurnLaws.{turn_fits}
 use Rattle.lazy.proofs.InsideLaws.{effect_below}
+use Rattle.words.proofs.HeaderLaws.{header_of}
 use Rattle.linear.specs.Entries.{is_turn, Event, call_started, turn_reported, entry_refused, turn_event, event_of, after}
 use Rattle.linear.proofs.State.{State, decode, stepped, start_step, seen_in, turn_step}
-use Rattle.linear.proofs.Stepped.{header_of, stepped_arena, known_record, header_stays, none_stays, state_steps}
+use Rattle.linear.proofs.Stepped.{stepped_arena, known_record, header_stays, none_stays, state_steps}
 
 -- an arena of a layout with W workers and N nodes whose header is in order
 pub record Sound (layout workers nodes : ℕ) (arena : List ℕ) : Type 0 where
@@ -40,6 +42,10 @@ pub record Sound (layout workers nodes : ℕ) (arena : List ℕ) : Type 0 where
   pub layout_is : layout_of arena ≡ layout
   pub workers_are : workers_of arena ≡ workers
   pub nodes_are : nodes_of arena ≡ nodes
+
+-- so its counts are in range
+pub sound_counts : {layout workers nodes : ℕ} {arena : List ℕ} → Sound layout workers nodes arena → Counts layout workers nodes
+sound_counts {arena = arena} sound = rw (sound.layout_is, sound.workers_are, sound.nodes_are) at (header_of arena sound.none).good
 
 -- whether a worker's turn would take the count past its ends
 abbrev pub miscounting : ℕ → ℕ → State → ℕ → Bool

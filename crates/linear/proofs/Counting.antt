@@ -2,7 +2,7 @@
 use Prim.Native.Nat.{ℕ, zero, suc, ◌-◌}
 use mathlib.Core.Path.{◌≡◌, refl, sym, ap, ◌∙◌}
 use mathlib.Core.Logic.{◌≢◌}
-use mathlib.Core.List.{List, []}
+use mathlib.Core.List.{List}
 use mathlib.Core.Bool.{false}
 use native.Mathlib.Omega.{arith}
 use lib.ListN.{length}
@@ -17,7 +17,6 @@ use Rattle.words.specs.Layout.{nodes_of, stored_of, stored_in}
 use Rattle.words.specs.Replies.{accepted, refusing}
 use Rattle.words.specs.Header.{header_refusals}
 use Rattle.arena.specs.Sets.{set_of, OnChain}
-use Rattle.arena.specs.Lists.{alone}
 use Rattle.arena.specs.Stored.{stored_values, stored_answer}
 use Rattle.arena.specs.declared.chain.Label.{Label}
 use Rattle.arena.proofs.SetLaws.{set_rises}
@@ -27,7 +26,7 @@ use Rattle.lazy.specs.Claims.{count_after}
 use Rattle.linear.specs.Sequential.{including, excluding}
 use Rattle.linear.specs.History.{arena_at}
 use Rattle.linear.specs.Linearizable.{ExactCounts}
-use Rattle.linear.proofs.LabelLaws.{find, labelled, rising_same, including_find, including_rises, including_length, excluding_find, excluding_rises, excluding_length, member_some}
+use Rattle.linear.proofs.LabelLaws.{labelled, rising_same, including_find, including_rises, including_length, excluding_find, excluding_rises, excluding_length, member_some}
 use Rattle.linear.proofs.Reach.{Reach, here, along}
 use Rattle.linear.proofs.State.{State, kept_length, decode}
 use Rattle.linear.proofs.Bridge.{miscounting}
@@ -37,7 +36,7 @@ use Rattle.linear.proofs.Changes.{Adds, Takes, linking, takes_key}
 use Rattle.linear.proofs.Course.{Grows, as_kept, as_added, as_taken, Row}
 use Rattle.linear.proofs.Members.{chain_run}
 use Rattle.linear.proofs.Timeline.{label, Happens, nothing, start, turn, sound, always, happens, row_of, step_at, Schedule, arena, state, entry}
-use Rattle.linear.proofs.Keys.{in_present, has_added, has_taken, label_kept, label_added, label_taken, label_started, empty}
+use Rattle.linear.proofs.Keys.{in_present, has_added, has_taken, label_kept, label_added, label_taken, label_started}
 
 -- where the set stays, so does the count
 count_kept : (stored : Option ℕ) → count_after Stays stored ≡ stored
@@ -119,10 +118,9 @@ module _ (r : Schedule) where
               rw e (omega (arith, less, excluding_length own (set_at time) (set_rises (arena r time)) there))
 
   -- so at every time the count, if there is one, is the size
-  counted : (time : ℕ) (stored : ℕ) → (state r time).stored ≡ Some stored → stored ≡ size time
-  unfolding arena_at find
-  counted zero stored e =
-      r.fresh.none_stored e ∙ sym (ap length (rising_same (set_at 0) [] (set_rises (arena r 0)) alone (empty r)))
+  pub counted : (time : ℕ) (stored : ℕ) → (state r time).stored ≡ Some stored → stored ≡ size time
+  unfolding arena_at
+  counted zero stored e = r.rest.counted e
   counted (suc time) stored e =
       let by = grown_at time in
       let was = from_count by.growth (state r time).stored (sym e ∙ by.stored) in

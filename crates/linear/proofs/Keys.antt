@@ -10,10 +10,7 @@ use lib.Dec.{eqb}
 use borrow.Author.Tests.{eqb-true, eqb-false}
 use Rattle.worker.specs.declared.report.Step.{Step}
 use Rattle.arena.specs.Sets.{is_none, set_of}
-use Rattle.linear.specs.History.{arena_at}
 use Rattle.linear.proofs.LabelLaws.{member_find, absent_find}
-use Rattle.linear.proofs.Reach.{Reach, here, on, stuck}
-use Rattle.linear.proofs.FreshState.{FreshState}
 use Rattle.linear.proofs.State.{State, kept_length, decode, stepped, start_step}
 use Rattle.linear.proofs.Promises.{Live}
 use Rattle.linear.proofs.Invariant.{In, Ahead, Inv}
@@ -183,15 +180,3 @@ module _ (r : Schedule) where
           ahead_kept time (entry r time).worker
           (start_step (entry r time).act (entry r time).key (entry r time).length) (quiet (omega arith)) next live ahead
       go (turn step event row idle next) = ahead_kept time (entry r time).worker step row.act next live ahead
-
-  -- a fresh arena's set is empty
-  pub empty : (key : ℕ) → label r 0 key ≡ none
-  unfolding arena_at
-  empty key = not_found 0 key (absent_of 0 key (λ i. unreached i i.chain))
-    where
-      fresh : FreshState (state r 0)
-      fresh = r.fresh
-
-      unreached : (i : In (state r 0) key) → Reach (state r 0).next 0 i.node → ⊥
-      unreached i (here e) = i.not_head (sym e)
-      unreached i (on run) = i.not_tail (stuck fresh.tail_next fresh.head_next run)

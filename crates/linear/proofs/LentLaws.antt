@@ -1,28 +1,26 @@
 -- What init leaves in a lent slice goes the way of a fresh arena, with the words past the total behind it.
 use Prim.Native.Nat.{ℕ, zero, suc, ◌-◌}
-use mathlib.Core.Path.{◌≡◌, sym, ap, subst, ◌∙◌}
+use mathlib.Core.Path.{◌≡◌, sym, ap, ◌∙◌}
 use mathlib.Core.List.{List, [], ◌++◌}
 use mathlib.Core.Bool.{true}
 use lib.ListN.{drop}
-use Rattle.words.specs.Layout.{total, good_counts, header_words}
+use Rattle.worker.proofs.RefusalLaws.{NoneHolds}
+use Rattle.words.specs.Layout.{total, good_counts}
+use Rattle.words.specs.Header.{header_refusals}
 use Rattle.words.specs.Replies.{accepted}
 use Rattle.words.proofs.Judged.{judged_accepted}
 use Rattle.words.specs.declared.entry.Entry.{Entry}
 use Rattle.arena.specs.Init.{fresh_words, init_refusals, init_answer, init_arena}
+use Rattle.arena.specs.Sets.{set_of}
+use Rattle.arena.specs.AtRest.{SoundAtRest}
 use Rattle.arena.proofs.FreshLaws.{init_passed}
 use Rattle.linear.specs.Entries.{event_of, after}
 use Rattle.linear.specs.History.{entry_at, arena_at, event_at}
 use Rattle.linear.specs.Lent.{Unseen, AsFresh, LaidAsFresh}
-use Rattle.linear.proofs.State.{decode}
-use Rattle.linear.proofs.Bridge.{Sound}
-use Rattle.linear.proofs.Longer.{sound_longer, state_same, unseen}
-use Rattle.linear.proofs.FreshState.{FreshState, fresh_sound, fresh_state}
-use Rattle.linear.proofs.Timeline.{Schedule, fresh_schedule, sound}
-use Rattle.linear.proofs.Rests.{all_rest}
-use Rattle.linear.proofs.TrueSnapshots.{all_true}
-use Rattle.linear.proofs.Waiting.{all_blocked}
-use Rattle.linear.proofs.Counting.{counts_exact}
-use Rattle.linear.proofs.Theorem.{proved, unmet, sets_exact}
+use Rattle.linear.proofs.Longer.{set_same, rests_longer, unseen}
+use Rattle.linear.proofs.FreshAtRest.{fresh_sound, fresh_set, fresh_rests}
+use Rattle.linear.proofs.Timeline.{fresh_schedule, sound}
+use Rattle.linear.proofs.Theorem.{from_rest}
 
 module _ (lent : List ℕ) (layout workers nodes : ℕ) (entries : List Entry) (accepts : init_answer lent layout workers nodes ≡ accepted []) where
   good : good_counts layout workers nodes ≡ true
@@ -40,27 +38,15 @@ module _ (lent : List ℕ) (layout workers nodes : ℕ) (entries : List Entry) (
   unfolding init_arena init_answer
   left = judged_accepted (init_refusals lent layout workers nodes) [] (λ number. lent) _ (sym accepts)
 
-  -- it is in order and fresh
-  left_sound : Sound layout workers nodes (init_arena lent layout workers nodes)
-  unfolding fresh_words header_words
-  left_sound = subst (Sound layout workers nodes) (sym left) (sound_longer fresh past (fresh_sound layout workers nodes good).none)
+  passes : NoneHolds (header_refusals fresh)
+  passes = (fresh_sound layout workers nodes good).none
 
-  left_fresh : FreshState (decode (init_arena lent layout workers nodes))
-  left_fresh =
-      subst FreshState (sym (ap decode left ∙ state_same fresh past (fresh_sound layout workers nodes good).none)) (fresh_state layout workers nodes good)
+  -- it is sound and at rest, and its set is empty
+  left_rests : SoundAtRest (init_arena lent layout workers nodes)
+  left_rests = rw left (rests_longer fresh past passes (fresh_rests layout workers nodes good))
 
-  abbrev r : Schedule
-  r =
-      record {
-        layout = layout;
-        workers = workers;
-        nodes = nodes;
-        initial = init_arena lent layout workers nodes;
-        entries = entries;
-        good = good;
-        begins_sound = left_sound;
-        fresh = left_fresh;
-      }
+  left_set : set_of (init_arena lent layout workers nodes) ≡ []
+  left_set = ap set_of left ∙ set_same fresh past passes ∙ fresh_set layout workers nodes good
 
   -- from time to time the words past the total are not looked at, and stay
   unseen_at : (time : ℕ) (entry : Entry) → Unseen (arena_at fresh entries time) past entry
@@ -85,13 +71,8 @@ module _ (lent : List ℕ) (layout workers nodes : ℕ) (entries : List Entry) (
       record {
         events = same_events;
         words = same_words;
-        linearizable = proved r;
-        unbroken = unmet r;
-        exact_sets = sets_exact r;
-        exact_counts = counts_exact r;
-        resting = all_rest r;
-        waiting = all_blocked r;
-        true_snapshots = all_true r;
+        at_rest = left_rests;
+        works = rw (← left_set) (from_rest (init_arena lent layout workers nodes) entries left_rests);
       }
 
 pub as_fresh : LaidAsFresh

@@ -10,7 +10,7 @@ pub mod Words
 pub mod Stepped
 pub mod Bridge
 pub mod Longer
-pub mod FreshState
+pub mod FreshAtRest
 pub mod Reach
 pub mod Promises
 pub mod Invariant
@@ -25,8 +25,8 @@ pub mod AnswerRows
 pub mod Preserved
 pub mod Passes
 pub mod FreeNodes
-pub mod FreshInvariant
 pub mod Members
+pub mod RestInvariant
 pub mod LookUps
 pub mod Timeline
 pub mod TrueSnapshots
@@ -38,9 +38,11 @@ pub mod Phases
 pub mod Points
 pub mod Tellings
 pub mod Calls
+pub mod PlacedCalls
 pub mod Openings
 pub mod OpenCalls
 pub mod Waiting
 pub mod Counting
+pub mod AtRestAgain
 pub mod Theorem
 pub mod LentLaws

@@ -1,6 +1,6 @@
 -- An arena with further words behind it: entries come to the same, and the further words stay.
 use Prim.Native.Nat.{ℕ, suc, ◌+◌, ◌-◌, ◌≤◌, ◌<◌}
-use mathlib.Core.Path.{◌≡◌, refl, sym, ap, ◌∙◌, fun_ext}
+use mathlib.Core.Path.{◌≡◌, refl, sym, ap, ◌∙◌}
 use mathlib.Core.Logic.{◌≢◌}
 use mathlib.Core.List.{List, [], ◌++◌}
 use mathlib.Core.Bool.{Bool, true, false, cond}
@@ -25,16 +25,18 @@ use Rattle.worker.specs.declared.report.Effect.TheVariants.{Nothing, SetOwner, S
 use Rattle.std.specs.Prelude.{Some, None, Result, Ok, Err}
 use Rattle.worker.proofs.RefusalLaws.{NoneHolds, judged_append, none_accepts}
 use Rattle.worker.proofs.EffectLaws.{EffectBelow}
-use Rattle.words.specs.Layout.{word, header_width, worker_from, node_width, layout_of, workers_of, nodes_of, nodes_from_of, stored_of, stored_in, has_count, stored_at, total_of, node_part, node_from, node_key, node_next, node_mark, node_owner, has_length}
+use Rattle.words.specs.Layout.{word, header_width, worker_from, node_width, layout_of, workers_of, nodes_of, nodes_from_of, stored_of, stored_in, has_count, stored_at, total_of, node_part, node_from, node_key, node_next, node_mark, node_owner}
 use Rattle.words.specs.Records.{worker_at, worker_words, with_worker, node_words, with_node, node_at}
-use Rattle.words.specs.Replies.{Reply, refused, accepted, replied}
+use Rattle.words.specs.Replies.{Reply, refused, accepted, refusing, replied}
 use Rattle.words.specs.Header.{header_refusals}
 use Rattle.words.proofs.Bounds.{wide, narrow}
-use Rattle.words.proofs.HeaderLaws.{Header}
+use Rattle.words.proofs.HeaderLaws.{Header, header_of}
 use Rattle.words.proofs.Judged.{none_holds, judged_numbered, judged_accepted}
-use Rattle.words.proofs.RecordLaws.{node_long}
+use Rattle.words.proofs.RecordLaws.{node_long, record_words}
 use Rattle.words.proofs.Runs.{sets_front}
 use Rattle.words.specs.declared.entry.Entry.{Entry}
+use Rattle.arena.specs.Sets.{chain_labels, node_in, set_of}
+use Rattle.arena.specs.AtRest.{SoundAtRest}
 use Rattle.arena.specs.Start.{call_refusals, start_refusals, start_arena}
 use Rattle.lazy.specs.Turn.{outcome_of, seen_of, seen_by, miscounts, counted, turn_on, with_effect, with_count, with_growth, with_changes, turned_arena, turn_arena}
 use Rattle.lazy.proofs.ChangeLaws.{effect_long, changes_long}
@@ -42,8 +44,7 @@ use Rattle.lazy.proofs.TurnLaws.{turn_accepted}
 use Rattle.lazy.proofs.InsideLaws.{effect_below, field_inside}
 use Rattle.linear.specs.Entries.{is_turn, call_started, entry_refused, turn_event, event_of, after}
 use Rattle.linear.specs.Lent.{Unseen, MoreUnseen}
-use Rattle.linear.proofs.State.{decode}
-use Rattle.linear.proofs.Stepped.{header_of, record_words, none_same, worker_same, place_same}
+use Rattle.linear.proofs.Stepped.{none_same, place_same}
 use Rattle.linear.proofs.Bridge.{Sound, roots_same, turn_judged, turn_unknown}
 
 module _ (arena more : List ℕ) (none : NoneHolds (header_refusals arena)) where
@@ -71,7 +72,7 @@ module _ (arena more : List ℕ) (none : NoneHolds (header_refusals arena)) wher
   sound_here : Sound (layout_of arena) (workers_of arena) (nodes_of arena) arena
   sound_here = record { none = none; layout_is = refl; workers_are = refl; nodes_are = refl }
 
-  pub sound_longer : Sound (layout_of arena) (workers_of arena) (nodes_of arena) (arena ++ more)
+  sound_longer : Sound (layout_of arena) (workers_of arena) (nodes_of arena) (arena ++ more)
   sound_longer =
       record {
         none = none_longer;
@@ -100,20 +101,28 @@ module _ (arena more : List ℕ) (none : NoneHolds (header_refusals arena)) wher
   count_same : stored_in longer ≡ stored_in arena
   count_same = λ i. cond (has_count (header_word 0 (omega arith) i)) (Some (header_word stored_at (omega arith) i)) None
 
-  -- decoded it is the same state
-  pub state_same : decode (arena ++ more) ≡ decode arena
-  state_same =
-      λ i.
-      let node = node_at (node_width (header_word 0 (omega arith) i)) (part_same i) in
+  -- and the set, so it is still sound and at rest
+  node_same : node_in longer ≡ node_in arena
+  node_same = λ i. node_at (node_width (header_word 0 (omega arith) i)) (part_same i)
+
+  pub set_same : set_of (arena ++ more) ≡ set_of arena
+  unfolding set_of
+  set_same = λ i. chain_labels (node_width (header_word 0 (omega arith) i)) (part_same i) (header_word 2 (omega arith) i)
+
+  pub rests_longer : SoundAtRest arena → SoundAtRest (arena ++ more)
+  rests_longer rest =
+      let nodes = header_word 2 (omega arith) in
       record {
-        key = λ n. (node n).key;
-        next = λ n. (node n).next;
-        mark = λ n. (node n).mark;
-        owner = λ n. (node n).owner;
-        length = λ n. (node n).length;
-        lengths = has_length (node_width (header_word 0 (omega arith) i));
-        stored = count_same i;
-        worker = fun_ext (λ v. worker_same arena longer same_header v (record_same v)) i;
+        header = none_accepts (header_refusals longer) refusing (accepted []) none_longer;
+        head_key = rw node_same rest.head_key;
+        tail_key = rw node_same rest.tail_key;
+        tail_next = rw node_same rest.tail_next;
+        inside = rw (node_same, nodes) rest.inside;
+        small = rw (node_same, nodes) rest.small;
+        unowned = rw (node_same, nodes) rest.unowned;
+        rises = rw (node_same, nodes) rest.rises;
+        idle = λ v there. let known : v < workers_of arena = omega (arith, header_word 1 (omega arith)) in record_same v known ∙ rest.idle v known;
+        counted = rw (count_same, set_same) rest.counted;
       }
 
   -- so a turn sees the same, and is the same

@@ -11,7 +11,7 @@ use Rattle.worker.specs.Node.{head, tail}
 use Rattle.words.specs.Layout.{nodes_of}
 use Rattle.arena.specs.declared.chain.Label.{Label}
 use Rattle.arena.specs.Sets.{member, ChainWhole, set_of, OnChain, top, link, InSet}
-use Rattle.arena.proofs.SetLaws.{chain_whole, set_rises, set_members}
+use Rattle.arena.proofs.SetLaws.{chain_below, chain_whole, set_rises, set_members}
 use Rattle.linear.proofs.LabelLaws.{find, labelled, member_find, present_find, from_find, in_find}
 use Rattle.linear.proofs.Reach.{Reach, here, one_more, along}
 use Rattle.linear.proofs.State.{decode}
@@ -23,17 +23,13 @@ pub chain_run : {next : ℕ → ℕ} {count n : ℕ} → OnChain next count n �
 chain_run (top some) = here refl
 chain_run (link on more low) = one_more (chain_run on)
 
--- and to no other, where links lead from nodes to nodes, and Tail to itself
-run_chain : {next : ℕ → ℕ} {count n : ℕ} → head < count → ((m : ℕ) → m < count → next m < count) → next tail ≡ tail → Reach next 0 n →
+-- and it leads to no other, where links lead from nodes to nodes, and Tail to itself
+pub run_chain : {next : ℕ → ℕ} {count n : ℕ} → head < count → ((m : ℕ) → m < count → next m < count) → next tail ≡ tail → Reach next 0 n →
     OnChain next count n
 run_chain {next} {count} some inside loops r = along (OnChain next count) onward (top some) r
   where
-    below : {n : ℕ} → OnChain next count n → n < count
-    below (top low) = low
-    below (link on more low) = low
-
     onward : (n : ℕ) → OnChain next count n → OnChain next count (next n)
-    onward n on = elim (ℕ_discrete n tail) [ yes e ↦ rw (e, loops) (rw e at on) | no more ↦ link on more (inside n (below on)) ]
+    onward n on = elim (ℕ_discrete n tail) [ yes e ↦ rw (e, loops) (rw e at on) | no more ↦ link on more (inside n (chain_below on)) ]
 
 module _ {layout workers nodes : ℕ} {arena : List ℕ} (sound : Sound layout workers nodes arena) (inv : Inv nodes (decode arena)) where
   -- there is a Head

@@ -14,9 +14,9 @@ use lib.Dec.{eqb}
 use borrow.Author.Tests.{ne_eqb}
 use Rattle.std.specs.List.{filter}
 use Rattle.std.proofs.lemmas.List.Elements.{filter-append}
-use Rattle.arena.specs.Lists.{Pairs, ◌ahead◌}
+use Rattle.arena.specs.Lists.{numbers_from, Pairs, ◌ahead◌}
 use Rattle.arena.proofs.ListLaws.{each_in}
-use Rattle.linear.specs.Times.{times_from, first, latest}
+use Rattle.linear.specs.Times.{first, latest}
 
 -- the first time at which a test holds, with one time more
 module _ (test : ℕ → Bool) where
@@ -56,8 +56,8 @@ module _ (test : ℕ → Bool) where
       first test from (suc left) ≡ from + left
   first_now from left some none holds = first_more from left some ∙ rw (none, holds)
 
-times_more : (from left : ℕ) → times_from from (suc left) ≡ times_from from left ++ ((from + left) ∷ [])
-unfolding times_from
+times_more : (from left : ℕ) → numbers_from from (suc left) ≡ numbers_from from left ++ ((from + left) ∷ [])
+unfolding numbers_from
 times_more from zero = rw add-zero
 times_more from (suc left) =
     let later : from + suc left ≡ suc from + left = omega arith in
@@ -65,18 +65,18 @@ times_more from (suc left) =
 
 -- the times that pass a test, with one time more
 abbrev pub passing : (ℕ → Bool) → ℕ → List ℕ
-passing test now = filter test (times_from 1 now)
+passing test now = filter test (numbers_from 1 now)
 
 pub passing_more : (test : ℕ → Bool) (now : ℕ) → test (suc now) ≡ true → passing test (suc now) ≡ passing test now ++ (suc now ∷ [])
 passing_more test now holds =
-    ap (filter test) (times_more 1 now) ∙ filter-append test (times_from 1 now) ((1 + now) ∷ []) ∙ rw (one_more now, holds)
+    ap (filter test) (times_more 1 now) ∙ filter-append test (numbers_from 1 now) ((1 + now) ∷ []) ∙ rw (one_more now, holds)
   where
     one_more : (now : ℕ) → 1 + now ≡ suc now
     one_more now = omega arith
 
 pub passing_same : (test : ℕ → Bool) (now : ℕ) → test (suc now) ≡ false → passing test (suc now) ≡ passing test now
 passing_same test now fails =
-    ap (filter test) (times_more 1 now) ∙ filter-append test (times_from 1 now) ((1 + now) ∷ [])
+    ap (filter test) (times_more 1 now) ∙ filter-append test (numbers_from 1 now) ((1 + now) ∷ [])
     ∙ rw (one_more now, fails) (append-nil (passing test now))
   where
     one_more : (now : ℕ) → 1 + now ≡ suc now

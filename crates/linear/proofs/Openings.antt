@@ -23,6 +23,7 @@ use Rattle.linear.proofs.LabelLaws.{find}
 use Rattle.linear.proofs.State.{State, decode, stepped}
 use Rattle.linear.proofs.After.{own_after, others_after}
 use Rattle.linear.proofs.Course.{Row, Verdict, goes_in, goes_out, present, missing, late as late_verdict, Course, rests, goes_on, settles, ends}
+use Rattle.linear.proofs.RestInvariant.{rest_idle}
 use Rattle.linear.proofs.Timeline.{Begun, begun_at, label, Happens, nothing, start, turn, always, happens, Schedule, state, last, entry, outcome, run_starts_at, run_call_at, in_order_of}
 use Rattle.linear.proofs.Keys.{label_kept, label_started}
 use Rattle.linear.proofs.Phases.{Decided, Phase, runs, closes, finished, phase_at, decided_now}
@@ -52,7 +53,7 @@ module _ (r : Schedule) where
 
   pub opened : (now v : ℕ) → ((state r now).worker v).stage ≢ 0 → Opened now v
   unfolding arena_at
-  opened zero v busy = absurd (busy (ap (λ (w : Worker). w.stage) (r.fresh.idle v)))
+  opened zero v busy = absurd (busy (ap (λ (w : Worker). w.stage) (rest_idle r.rest v)))
   opened (suc now) v busy =
       elim (ℕ_discrete ((state r now).worker v).stage 0) [
         | no before ↦ longer (opened now v before)

@@ -12,6 +12,7 @@ use Rattle.linear.proofs.Reach.{same?}
 use Rattle.linear.proofs.State.{State, decode, stepped}
 use Rattle.linear.proofs.Invariant.{Inv}
 use Rattle.linear.proofs.Bridge.{Entered, refuses, starts, turns}
+use Rattle.linear.proofs.RestInvariant.{rest_unowned}
 use Rattle.linear.proofs.Timeline.{Schedule, arena, state, entry, entered_at, always}
 use Rattle.linear.proofs.Locks.{Locks, Lock, unowned, taken, stays, without, turn_locks}
 
@@ -76,5 +77,5 @@ module _ (r : Schedule) where
   -- so it is at every time
   pub owners_at : (time : ℕ) → Owners (state r time)
   unfolding arena_at
-  owners_at zero = λ node some. absurd (some (r.fresh.unowned node))
+  owners_at zero = λ node some. absurd (some (rest_unowned r.rest node))
   owners_at (suc time) = owners_next time (owners_at time) (entered_at r time (entry r time) (always r time))

@@ -15,6 +15,7 @@ use Rattle.linear.specs.Linearizable.{Resting}
 use Rattle.linear.proofs.Reach.{same?}
 use Rattle.linear.proofs.State.{seen_in}
 use Rattle.linear.proofs.Course.{Course, rests, goes_on, settles, ends, Row}
+use Rattle.linear.proofs.RestInvariant.{rest_idle}
 use Rattle.linear.proofs.Timeline.{Schedule, For, not_its, its_start, its_turn, entry_for, step_at, row_of, state, entry, always, sound, own_worker}
 
 -- a call begins at 1 or 22
@@ -64,7 +65,7 @@ module _ (r : Schedule) where
 
   rested : (time v : ℕ) → Rested ((state r time).worker v)
   unfolding arena_at
-  rested zero v = λ idle. r.fresh.idle v
+  rested zero v = λ idle. rest_idle r.rest v
   rested (suc time) v = rests_next time v (rested time v)
 
   pub all_rest : Resting r.initial r.entries

@@ -11,7 +11,7 @@ use lib.Dec.{eqb}
 use Rattle.worker.specs.Worker.{add, remove, contains}
 use Rattle.worker.specs.Report.{answer_number}
 use Rattle.worker.specs.declared.report.Answer.TheVariants.{Yes, No, Full}
-use Rattle.arena.specs.Lists.{Each, none as nothing, ◌and◌, Pairs, alone, ◌ahead◌}
+use Rattle.arena.specs.Lists.{Each, none as nothing, ◌and◌, Pairs, ◌ahead◌}
 use Rattle.arena.specs.declared.chain.Label.{Label}
 use Rattle.arena.specs.Sets.{is_none, Rising, member}
 use Rattle.arena.proofs.ListLaws.{each_in, each_of}
@@ -51,7 +51,7 @@ abbrev pub Apart : Call → Call → Type 0
 Apart a b = a.point ≡ b.point → (rank a ≡ 0) × (rank b ≡ 0) → ⊥
 
 -- labels rise, and are those of a set
-abbrev Holds : Lengths → List Label → Type 0
+abbrev pub Holds : Lengths → List Label → Type 0
 Holds set labels = Rising labels × ((key : ℕ) → find key labels ≡ set key)
 
 -- so a key is there where the set has one
@@ -211,21 +211,18 @@ module _ (set : ℕ → Lengths) (last : ℕ) where
       (each_of cs (λ other m. let after = each_in before m in following_apart call after.0 after.1)) pairs placed ended in
       (ap₂ ◌∷◌ response.0 others.0, others.1)
 
--- the calls in order, taken by the sequential set one after another, are answered as they were, and it ends with the set of the last time
-pub simulated : (set : ℕ → Lengths) (last : ℕ) (cs : List Call) →
-    ((key : ℕ) → set 0 key ≡ none) →
+-- the calls in order, taken by the sequential set one after another from the set of time 0 on, are answered as they were, and it ends with the
+-- set of the last time
+pub simulated : (set : ℕ → Lengths) (last : ℕ) (begins : List Label) (cs : List Call) →
+    Holds (set 0) begins →
     Pairs (λ a b. Before a b × Apart a b) cs →
     Each (Placed set) cs →
     Each (λ call. call.point ≤ last) cs →
     ((time : ℕ) → time < last →
     ((key : ℕ) → set (suc time) key ≡ set time key)
     ⊎ ((call : Call) × Memᴰ call cs × (call.point ≡ suc time) × (rank call ≡ 0))) →
-    (answers_to [] cs ≡ map (λ (call : Call). call.answer) cs) × Rising (labels_after [] cs)
-    × ((key : ℕ) → find key (labels_after [] cs) ≡ set last key)
-unfolding find
-simulated set last cs fresh pairs placed ended changes =
-    let all =
-    all_answered set last 0 [] cs (omega arith) (alone, λ key. sym (fresh key))
+    (answers_to begins cs ≡ map (λ (call : Call). call.answer) cs) × Holds (set last) (labels_after begins cs)
+simulated set last begins cs holds pairs placed ended changes =
+    all_answered set last 0 begins cs (omega arith) holds
     (λ time h l quiet. ⊎_elim (λ same. same) (λ (call, m, at, own). absurd (each_in quiet m own at)) (changes time l))
-    (each_of cs (λ call m. earlier (omega arith) (turn_of (each_in placed m)).comes)) pairs placed ended in
-    (all.0, all.1.0, all.1.1)
+    (each_of cs (λ call m. earlier (omega arith) (turn_of (each_in placed m)).comes)) pairs placed ended

@@ -2,7 +2,7 @@
 use Prim.Native.Nat.{ℕ, ◌+◌, ◌≤◌, ◌<◌}
 use mathlib.Core.Path.{◌≡◌, refl, sym, ap, ◌∙◌, fun_ext}
 use mathlib.Core.Logic.{inl, inr, ◌≢◌}
-use mathlib.Core.List.{List, []}
+use mathlib.Core.List.{List}
 use mathlib.Core.Bool.{Bool, true, false, cond}
 use native.Mathlib.Omega.{arith}
 use native.Mathlib.Decide.{ℕ_discrete, dec_lt}
@@ -10,58 +10,22 @@ use lib.ListN.{length}
 use lib.Seq.{length-sets}
 use borrow.Author.Tests.{eq-eqb, ne_eqb, le-leb, lt-ltb, le-ltb, ltb-true}
 use Rattle.worker.specs.Worker.{idle_worker}
-use Rattle.worker.specs.declared.Worker.{Worker}
 use Rattle.worker.specs.declared.report.Step.{Step}
 use Rattle.std.specs.Prelude.{Some, None, Ok}
-use Rattle.worker.proofs.RefusalLaws.{NoneHolds, none_accepts}
+use Rattle.worker.proofs.RefusalLaws.{NoneHolds}
 use Rattle.worker.proofs.EffectLaws.{EffectBelow}
-use Rattle.words.specs.Layout.{word, header_width, worker_width, worker_stage, worker_operation, worker_key, worker_pred, worker_curr, worker_spare, worker_answer, worker_length, node_key, node_next, node_mark, node_owner, node_length, has_length, worker_from, node_width, slot, header_words, layout_of, workers_of, nodes_of, nodes_from_of, stored_of, stored_in, has_count, most_stored, stored_at, node_from, total_of}
+use Rattle.words.specs.Layout.{word, header_width, node_key, node_next, node_mark, node_owner, node_length, has_length, worker_from, node_width, slot, header_words, layout_of, workers_of, nodes_of, nodes_from_of, stored_of, stored_in, has_count, most_stored, stored_at, node_from, total_of}
 use Rattle.words.specs.Records.{worker_at, worker_words, with_worker, node_at, Outside}
-use Rattle.words.specs.Replies.{accepted, refusing}
 use Rattle.words.specs.Header.{is_header, header_refusals}
 use Rattle.words.proofs.Bounds.{wide}
-use Rattle.words.proofs.HeaderLaws.{Header, header_holds}
-use Rattle.words.proofs.RecordLaws.{read_back, others_stay}
+use Rattle.words.proofs.HeaderLaws.{Header, header_of}
+use Rattle.words.proofs.RecordLaws.{read_back, others_stay, record_words}
 use Rattle.lazy.specs.Turn.{with_effect, with_changes, turned_arena}
 use Rattle.lazy.specs.Claims.{count_after}
 use Rattle.lazy.proofs.ChangeLaws.{CountFits, growth_off, changes_long, changes_before, changes_count, changes_few}
 use Rattle.lazy.proofs.InsideLaws.{field_inside}
 use Rattle.linear.proofs.State.{decode, word_after, length_after, stepped}
 use Rattle.linear.proofs.Words.{field_in, field_word, no_field, effect_word, word_stays, length_word, no_length}
-
--- an arena that the header test does not refuse has its header in order
-pub header_of : (arena : List ℕ) → NoneHolds (header_refusals arena) → Header arena
-header_of arena none = header_holds arena (sym (none_accepts (header_refusals arena) refusing (accepted []) none))
-
--- a worker's record of given words
-abbrev pub record_of : (ℕ → ℕ) → Worker
-record_of field =
-    record {
-      stage = field worker_stage;
-      operation = field worker_operation;
-      key = field worker_key;
-      pred = field worker_pred;
-      curr = field worker_curr;
-      spare = field worker_spare;
-      answer = field worker_answer;
-      length = field worker_length;
-    }
-
--- that record is read where these words stand
-pub record_words : (arena : List ℕ) (worker : ℕ) (field : ℕ → ℕ) →
-    ((k : ℕ) → k < worker_width → word arena (worker_from worker + k) ≡ field k) → worker_at arena worker ≡ record_of field
-unfolding worker_at
-record_words arena worker field same =
-    λ i. record {
-      stage = same worker_stage (omega arith) i;
-      operation = same worker_operation (omega arith) i;
-      key = same worker_key (omega arith) i;
-      pred = same worker_pred (omega arith) i;
-      curr = same worker_curr (omega arith) i;
-      spare = same worker_spare (omega arith) i;
-      answer = same worker_answer (omega arith) i;
-      length = same worker_length (omega arith) i;
-    }
 
 -- decoded, a worker that there is has its record
 pub known_record : (arena : List ℕ) (v : ℕ) → v < workers_of arena → (decode arena).worker v ≡ worker_at arena v
@@ -102,7 +66,7 @@ module _ (arena other : List ℕ) (same : (at : ℕ) → at < header_width → a
       )
 
   -- decoded, a worker is the same where its record is
-  pub worker_same : (v : ℕ) → (v < workers_of arena → worker_at other v ≡ worker_at arena v) → (decode other).worker v ≡ (decode arena).worker v
+  worker_same : (v : ℕ) → (v < workers_of arena → worker_at other v ≡ worker_at arena v) → (decode other).worker v ≡ (decode arena).worker v
   worker_same v stays =
       let workers = same 1 (omega arith) (omega arith) in
       elim (dec_lt v (workers_of arena)) [

@@ -9,9 +9,9 @@ use mathlib.Mathlib.Data.Bool.Basic.{dichotomy}
 use native.Mathlib.Omega.{arith}
 use native.Mathlib.Decide.{ℕ_discrete, dec_lt}
 use Rattle.std.specs.List.{filter}
-use Rattle.arena.specs.Lists.{Pairs, alone, ◌ahead◌}
+use Rattle.arena.specs.Lists.{numbers_from, Pairs, alone, ◌ahead◌}
 use Rattle.arena.proofs.ListLaws.{from_filter, each_of, pairs_map}
-use Rattle.linear.specs.Times.{times_from, first}
+use Rattle.linear.specs.Times.{first}
 
 -- a test that holds at no time is found nowhere
 pub first_none : (test : ℕ → Bool) (time left : ℕ) → ((t : ℕ) → time ≤ t → t < time + left → test t ≡ false) → first test time left ≡ 0
@@ -77,8 +77,8 @@ first_past test time (suc left) upto fails =
     ]
 
 -- the times from one on are those not before it and before its end
-pub in_times : (time left t : ℕ) → time ≤ t → t < time + left → Memᴰ t (times_from time left)
-unfolding times_from
+pub in_times : (time left t : ℕ) → time ≤ t → t < time + left → Memᴰ t (numbers_from time left)
+unfolding numbers_from
 in_times time zero t h k = absurd (omega arith)
 in_times time (suc left) t h k =
     elim (ℕ_discrete t time) [
@@ -86,8 +86,8 @@ in_times time (suc left) t h k =
       | no q ↦ Memᴰ.tail (in_times (suc time) left t (omega arith) (omega arith))
     ]
 
-pub from_times : (time left : ℕ) {t : ℕ} → Memᴰ t (times_from time left) → (time ≤ t) × (t < time + left)
-unfolding times_from
+pub from_times : (time left : ℕ) {t : ℕ} → Memᴰ t (numbers_from time left) → (time ≤ t) × (t < time + left)
+unfolding numbers_from
 from_times time zero m = absurd (Memᴰ.not-nil m)
 from_times time (suc left) m =
     ⊎_elim (λ same. omega arith) (λ there. let later = from_times (suc time) left there in omega arith) (Memᴰ.cases_cons m)
@@ -95,8 +95,8 @@ from_times time (suc left) m =
 -- times rise, so what holds of every earlier and later one of the times that pass a test holds of every two of them
 pub pairs_times : (test : ℕ → Bool) (R : ℕ → ℕ → Type 0) (time left : ℕ) →
     ((s t : ℕ) → time ≤ s → s < t → t < time + left → test s ≡ true → test t ≡ true → R s t) →
-    Pairs R (filter test (times_from time left))
-unfolding times_from
+    Pairs R (filter test (numbers_from time left))
+unfolding numbers_from
 pairs_times test R time zero holds = alone
 pairs_times test R time (suc left) holds =
     let later = pairs_times test R (suc time) left (λ s t h k l. holds s t (omega arith) k (omega arith)) in
@@ -113,5 +113,5 @@ pairs_times test R time (suc left) holds =
 -- and of the mapped list
 pub pairs_mapped : {B : Type 0} (f : ℕ → B) (test : ℕ → Bool) (R : B → B → Type 0) (time left : ℕ) →
     ((s t : ℕ) → time ≤ s → s < t → t < time + left → test s ≡ true → test t ≡ true → R (f s) (f t)) →
-    Pairs R (map f (filter test (times_from time left)))
+    Pairs R (map f (filter test (numbers_from time left)))
 pairs_mapped f test R time left holds = pairs_map f (pairs_times test (λ s t. R (f s) (f t)) time left holds)

@@ -5,7 +5,6 @@ use mathlib.Core.Logic.{◌⊎◌, inl, inr, ◌≢◌}
 use mathlib.Core.List.{List}
 use mathlib.Core.Bool.{Bool, true, false, true≢false}
 use mathlib.Core.Option.{Option}
-use native.Mathlib.Omega.{arith}
 use native.Mathlib.Numerals.{sub-one}
 use lib.ListN.{length}
 use borrow.Author.Tests.{eq-eqb, ne_eqb, lt-ltb, le-ltb}
@@ -13,12 +12,12 @@ use Rattle.worker.specs.Worker.{is_call, idle_worker, started_worker}
 use Rattle.worker.specs.declared.report.Report.{Report}
 use Rattle.worker.specs.declared.report.Step.{Step}
 use Rattle.worker.proofs.TurnLaws.{step_row}
-use Rattle.words.specs.Layout.{good_counts, node_width, has_length}
+use Rattle.words.specs.Layout.{good_counts, layout_of, workers_of, nodes_of, node_width, has_length}
 use Rattle.words.specs.Records.{worker_at}
-use Rattle.words.proofs.Bounds.{counts}
 use Rattle.words.specs.declared.entry.Entry.{Entry}
 use Rattle.arena.specs.Init.{fresh_words}
 use Rattle.arena.specs.Sets.{member, set_of}
+use Rattle.arena.specs.AtRest.{SoundAtRest}
 use Rattle.linear.specs.Entries.{Event, call_started, turn_reported, entry_refused, is_started, is_reported, is_finished, event_of}
 use Rattle.linear.specs.History.{Call, entry_at, arena_at, event_at, decides_at, finishes_at, starts_at, call_at, calls}
 use Rattle.linear.specs.Order.{in_order}
@@ -26,24 +25,35 @@ use Rattle.linear.proofs.LabelLaws.{find}
 use Rattle.linear.proofs.Reach.{same?}
 use Rattle.linear.proofs.State.{State, decode, stepped, start_step, turn_step}
 use Rattle.linear.proofs.Bridge.{Sound, Entered, refuses, starts, turns, entered, after_sound}
-use Rattle.linear.proofs.FreshState.{FreshState, fresh_sound, fresh_state}
+use Rattle.linear.proofs.FreshAtRest.{fresh_sound, fresh_rests}
 use Rattle.linear.proofs.Invariant.{Inv}
 use Rattle.linear.proofs.Course.{Row}
 use Rattle.linear.proofs.Preserved.{row_inv, turn_row, start_inv}
 use Rattle.linear.proofs.Passes.{passes, stage_below}
 use Rattle.linear.proofs.FreeNodes.{free_not_live}
-use Rattle.linear.proofs.FreshInvariant.{fresh_inv}
+use Rattle.linear.proofs.RestInvariant.{rest_sound, rest_inv}
 
--- a list of entries from an arena that is fresh, as far as it is read
+-- a list of entries from an arena that is sound and at rest
 pub record Schedule : Type 0 where
   pub layout : ℕ
   pub workers : ℕ
   pub nodes : ℕ
   pub initial : List ℕ
   pub entries : List Entry
-  pub good : good_counts layout workers nodes ≡ true
   pub begins_sound : Sound layout workers nodes initial
-  pub fresh : FreshState (decode initial)
+  pub rest : SoundAtRest initial
+
+abbrev pub rest_schedule : (initial : List ℕ) (entries : List Entry) → SoundAtRest initial → Schedule
+rest_schedule initial entries rest =
+    record {
+      layout = layout_of initial;
+      workers = workers_of initial;
+      nodes = nodes_of initial;
+      initial = initial;
+      entries = entries;
+      begins_sound = rest_sound rest;
+      rest = rest;
+    }
 
 -- from a fresh arena of just its total
 abbrev pub fresh_schedule : (layout workers nodes : ℕ) (entries : List Entry) → good_counts layout workers nodes ≡ true → Schedule
@@ -54,9 +64,8 @@ fresh_schedule layout workers nodes entries good =
       nodes = nodes;
       initial = fresh_words layout workers nodes;
       entries = entries;
-      good = good;
       begins_sound = fresh_sound layout workers nodes good;
-      fresh = fresh_state layout workers nodes good;
+      rest = fresh_rests layout workers nodes good;
     }
 
 module _ (r : Schedule) where
@@ -168,9 +177,7 @@ module _ (r : Schedule) where
   -- the invariant holds at every time
   pub always : (time : ℕ) → Inv r.nodes (state time)
   unfolding arena_at
-  always zero =
-      let few = counts r.layout r.workers r.nodes r.good in
-      fresh_inv (omega (arith, few)) (omega (arith, few)) r.fresh
+  always zero = rw (← r.begins_sound.nodes_are) (rest_inv r.rest)
   always (suc time) = inv_next time (always time) (happening time (always time) (entered_at time (entry time) (always time)))
 
   pub happens : (time : ℕ) → Happens time

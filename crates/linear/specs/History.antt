@@ -8,7 +8,8 @@ use Rattle.worker.specs.declared.report.Answer.TheVariants.{No, Full}
 use Rattle.words.specs.Records.{worker_at}
 use Rattle.words.specs.declared.entry.Entry.{Entry}
 use Rattle.arena.specs.Sets.{member, set_of}
-use Rattle.linear.specs.Times.{times_from, first, latest}
+use Rattle.arena.specs.Lists.{numbers_from}
+use Rattle.linear.specs.Times.{first, latest}
 use Rattle.linear.specs.Entries.{Event, event_of, after, is_started, is_reported, is_refused, is_waits, is_finished, event_values}
 
 -- a call record: worker, operation, key, start, point, finish, answer; 0 stands for a point or finish not reached, and for the answer
@@ -123,7 +124,7 @@ module _ (initial : List ℕ) (entries : List Entry) where
 
   -- the times of the entries
   abbrev pub times : List ℕ
-  times = times_from 1 (length entries)
+  times = numbers_from 1 (length entries)
 
   -- the calls: one for each accepted start, in order of start
   unfoldable pub calls : List Call
@@ -137,7 +138,7 @@ module _ (initial : List ℕ) (entries : List Entry) where
   unfoldable pub call_number : ℕ → ℕ → ℕ
   call_number worker time =
       let start = latest (starts_call_of worker) (time - 1) in
-      length (filter starts_at (times_from 1 (start - 1)))
+      length (filter starts_at (numbers_from 1 (start - 1)))
 
   -- the wait at a time at which a turn waits
   abbrev pub waits_at : ℕ → Bool

@@ -5,10 +5,10 @@ use Rattle.words.specs.Replies.{accepted, replied}
 use Rattle.words.specs.Header.{header_refusals}
 use Rattle.words.specs.declared.entry.Entry.{Entry}
 use Rattle.arena.specs.Init.{fresh_words, init_answer, init_arena}
+use Rattle.arena.specs.AtRest.{SoundAtRest}
 use Rattle.linear.specs.Entries.{event_of, after}
 use Rattle.linear.specs.History.{arena_at, event_at}
-use Rattle.linear.specs.Linearizable.{Linearizable, Unbroken, ExactSets, ExactCounts, Resting, Waiting}
-use Rattle.linear.specs.Snapshots.{TrueSnapshots}
+use Rattle.linear.specs.Works.{WorksFrom}
 
 -- further words behind an arena: an entry does not look at them, and they stay
 pub record Unseen (arena more : List ℕ) (entry : Entry) : Type 0 where
@@ -25,14 +25,9 @@ pub record AsFresh (lent : List ℕ) (layout workers nodes : ℕ) (entries : Lis
   pub words : (time : ℕ) →
       arena_at (init_arena lent layout workers nodes) entries time
       ≡ arena_at (fresh_words layout workers nodes) entries time ++ drop (total layout workers nodes) lent
-  -- and demand 3 holds of it there
-  pub linearizable : Linearizable (init_arena lent layout workers nodes) entries
-  pub unbroken : Unbroken (init_arena lent layout workers nodes) entries
-  pub exact_sets : ExactSets (init_arena lent layout workers nodes) entries
-  pub exact_counts : ExactCounts (init_arena lent layout workers nodes) entries
-  pub resting : Resting (init_arena lent layout workers nodes) entries
-  pub waiting : Waiting (init_arena lent layout workers nodes) entries
-  pub true_snapshots : TrueSnapshots (init_arena lent layout workers nodes) entries
+  -- it is sound and at rest; and demand 3, with all that is claimed beside it, holds of it there
+  pub at_rest : SoundAtRest (init_arena lent layout workers nodes)
+  pub works : WorksFrom [] (init_arena lent layout workers nodes) entries
 
 -- so it is in every slice that init accepts (`LentLaws.as_fresh`)
 abbrev pub LaidAsFresh : Type 0

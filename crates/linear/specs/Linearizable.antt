@@ -1,4 +1,4 @@
--- Demand 3, one field for each of its sentences.
+-- Demand 3, one field for each of its sentences, and what is claimed beside it.
 use Rattle.std.specs.Prelude.{ℕ, suc, ◌≤◌, ◌<◌, ◌≡◌, ◌≢◌, ◌↔◌, ◌⊎◌, true, length, get_or}
 use mathlib.Core.List.{List, [], ◌∷◌, Memᴰ, map}
 use Rattle.worker.specs.Worker.{idle_stage, idle_worker}
@@ -18,34 +18,34 @@ use Rattle.linear.specs.History.{Call, Wait, entry_at, arena_at, event_at, calls
 use Rattle.linear.specs.Order.{in_order}
 use Rattle.linear.specs.Sequential.{answers_to, labels_after}
 
--- a list of entries, and the arena that its first one gets
+-- entry k is a turn of the worker, and reports finished with the answer of this number
+pub record Tells (initial : List ℕ) (entries : List Entry) (worker number time : ℕ) : Type 0 where
+  pub answer : Answer
+  pub own : (entry_at entries time).worker ≡ worker
+  pub event : event_at initial entries time ≡ turn_reported (Finished answer)
+  pub numbered : answer_number answer ≡ number
+
+-- of a list of entries, the arena that its first one gets, and the labels that the sequential set begins with
+pub record Linearizable (begins : List Label) (initial : List ℕ) (entries : List Entry) : Type 0 where
+  -- the calls that have reached their points, taken whole and one after another by the sequential set, have the same answers there as
+  -- turn by turn; it answers full only for an absent key, and then changes nothing (`response_to`)
+  pub same_answers :
+      answers_to begins (in_order initial entries) ≡ map (λ (call : Call). call.answer) (in_order initial entries)
+  -- no call's point is before its start
+  pub started_before : (call : Call) → Memᴰ call (calls initial entries) → call.point ≢ 0 → call.start ≤ call.point
+  -- every finished call has reached its point before its finish
+  pub reached_before : (call : Call) → Memᴰ call (calls initial entries) → call.finish ≢ 0 →
+      (call.point ≢ 0) × (call.point < call.finish)
+  -- 0 stands for the answer of a call without a point, and of no other
+  pub answered_there : (call : Call) → Memᴰ call (calls initial entries) → (call.answer ≡ 0) ↔ (call.point ≡ 0)
+  -- a call's answer is the one that its worker reports at its finish
+  pub told_answer : (call : Call) → Memᴰ call (calls initial entries) → call.finish ≢ 0 →
+      Tells initial entries call.worker call.answer call.finish
+  -- the sequential set holds exactly the arena's set, and each node of the set the length of the add that put its key there
+  pub same_labels : labels_after begins (in_order initial entries) ≡ set_of (arena_at initial entries (length entries))
+
 module _ (initial : List ℕ) (entries : List Entry) where
-  -- entry k is a turn of the worker, and reports finished with the answer of this number
-  pub record Tells (worker number time : ℕ) : Type 0 where
-    pub answer : Answer
-    pub own : (entry_at entries time).worker ≡ worker
-    pub event : event_at initial entries time ≡ turn_reported (Finished answer)
-    pub numbered : answer_number answer ≡ number
-
-  pub record Linearizable : Type 0 where
-    -- the calls that have reached their points, taken whole and one after another by the sequential set, have the same answers there as
-    -- turn by turn; it answers full only for an absent key, and then changes nothing (`response_to`)
-    pub same_answers :
-        answers_to [] (in_order initial entries) ≡ map (λ (call : Call). call.answer) (in_order initial entries)
-    -- no call's point is before its start
-    pub started_before : (call : Call) → Memᴰ call (calls initial entries) → call.point ≢ 0 → call.start ≤ call.point
-    -- every finished call has reached its point before its finish
-    pub reached_before : (call : Call) → Memᴰ call (calls initial entries) → call.finish ≢ 0 →
-        (call.point ≢ 0) × (call.point < call.finish)
-    -- 0 stands for the answer of a call without a point, and of no other
-    pub answered_there : (call : Call) → Memᴰ call (calls initial entries) → (call.answer ≡ 0) ↔ (call.point ≡ 0)
-    -- a call's answer is the one that its worker reports at its finish
-    pub told_answer : (call : Call) → Memᴰ call (calls initial entries) → call.finish ≢ 0 →
-        Tells call.worker call.answer call.finish
-    -- the sequential set holds exactly the arena's set, and each node of the set the length of the add that put its key there
-    pub same_labels : labels_after [] (in_order initial entries) ≡ set_of (arena_at initial entries (length entries))
-
-  -- beside it: no turn from a fresh arena meets 6, 7 or 14
+  -- beside it: no turn meets 6, 7 or 14
   abbrev pub Unbroken : Type 0
   Unbroken =
       (time : ℕ) → is_turn (entry_at entries time) ≡ true →

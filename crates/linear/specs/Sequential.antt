@@ -1,4 +1,4 @@
--- The sequential set (document 01: the plain set): its labels as a list that rises by key, empty at first.
+-- The sequential set (document 01: the plain set): its labels as a list that rises by key.
 use Rattle.std.specs.Prelude.{ℕ, List, [], ◌∷◌, Bool, cond, ltb, eqb}
 use Rattle.worker.specs.Worker.{add, remove}
 use Rattle.worker.specs.Report.{answer_number}

@@ -1,10 +1,5 @@
--- Times in a row, and the first and the last of them at which a test holds.
-use Rattle.std.specs.Prelude.{ℕ, zero, suc, List, [], ◌∷◌, Bool, cond}
-
--- so many times, from `time` on
-unfoldable pub times_from : ℕ → ℕ → List ℕ
-times_from time zero = []
-times_from time (suc left) = time ∷ times_from (suc time) left
+-- The first and the last of some times in a row at which a test holds.
+use Rattle.std.specs.Prelude.{ℕ, zero, suc, Bool, cond}
 
 -- the first of so many times from `time` on at which a test holds; 0 where it holds at none
 unfoldable pub first : (ℕ → Bool) → ℕ → ℕ → ℕ

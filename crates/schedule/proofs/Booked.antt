@@ -16,9 +16,9 @@ use Rattle.worker.specs.declared.report.Report.{Report}
 use Rattle.worker.specs.declared.report.Report.TheVariants as report
 use Rattle.words.specs.Layout.{workers_of}
 use Rattle.words.specs.Records.{worker_at}
-use Rattle.words.proofs.Bounds.{counts}
+use Rattle.arena.specs.Lists.{numbers_from}
+use Rattle.linear.proofs.Bridge.{sound_counts}
 use Rattle.arena.specs.Sets.{member, set_of}
-use Rattle.linear.specs.Times.{times_from}
 use Rattle.linear.specs.Entries.{Event, call_started, turn_reported, entry_refused, is_started, is_reported, is_refused, is_waits}
 use Rattle.linear.specs.History.{arena_at, event_at}
 use Rattle.linear.proofs.MoreTimes.{passing, passing_same, passing_count}
@@ -48,7 +48,7 @@ module _ (r : Schedule) where
         get_or book.absent (entry r origin).worker 0 ≡ absent_by r (entry r origin).key (suc origin) now
 
   pub booked_first : Booked 0 new_book
-  unfolding times_from
+  unfolding numbers_from
   booked_first =
       record {
         calls_are = refl;
@@ -117,7 +117,7 @@ module _ (r : Schedule) where
       begins = ap is_started event
 
       eighth : v < 8
-      eighth = omega (arith, counts r.layout r.workers r.nodes r.good)
+      eighth = omega (arith, sound_counts r.begins_sound)
 
       earlier : (origin : ℕ) (b : Begun r origin) → Open r origin b (suc now) → origin ≢ now → Open r origin b now
       earlier origin b o d = open_before r origin b now (omega (arith, o.begun)) o
@@ -251,7 +251,7 @@ module _ (r : Schedule) where
           = rw (own, o.same_operation, o.same_key, asks) in
           missed_at worker gone_key (suc now) book.absent (workers_of (arena r (suc now))) u
           (omega (arith, b.known, (sound r (suc now)).workers_are))
-          (omega (arith, b.known, booked.times, counts r.layout r.workers r.nodes r.good))
+          (omega (arith, b.known, booked.times, sound_counts r.begins_sound))
           ∙ rw looks (missed_by gone_key gone origin b o asks)
 
     -- a turn that takes a key out moves, and is missed by those who look the key up

@@ -14,7 +14,7 @@ use Rattle.std.specs.List.{filter}
 use Rattle.worker.specs.Node.{head, tail}
 use Rattle.words.specs.Layout.{layout_of, nodes_of, node_width, node_part}
 use Rattle.arena.specs.declared.chain.Label.{Label}
-use Rattle.arena.specs.Sets.{member, is_unmarked, chain_labels, node_in, label_in, ChainWhole, set_of}
+use Rattle.arena.specs.Sets.{member, is_unmarked, set_nodes, chain_labels, node_in, label_in, ChainWhole, set_of}
 use Rattle.arena.proofs.ListLaws.{from_filter}
 use Rattle.arena.proofs.SetLaws.{key_of, next_of, chain_of, Walked, ended, passed, walked_above, whole_walked}
 use Rattle.linear.proofs.LabelLaws.{present_find, from_find}
@@ -74,7 +74,7 @@ module _ (arena : List ℕ) (key : ℕ) where
     left : member key (set_of arena) ≡ among nodes
 
   pub begins : ChainWhole arena → Ahead (key_of arena head) (next_of arena head)
-  unfolding set_of chain_labels
+  unfolding set_of chain_labels set_nodes
   begins whole = record { nodes = chain_of arena; walked = whole_walked arena whole; left = refl }
 
   none_left : {last next : ℕ} {nodes : List ℕ} → Walked (nodes_of arena) (key_of arena) (next_of arena) last next nodes → next ≡ tail → nodes ≡ []

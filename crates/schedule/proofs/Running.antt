@@ -18,7 +18,7 @@ use Rattle.words.specs.Layout.{layout2, good_counts, total}
 use Rattle.words.specs.Replies.{accepted, refusing}
 use Rattle.words.specs.Header.{header_refusals}
 use Rattle.arena.specs.Init.{fresh_words, init_refusals, init_arena}
-use Rattle.linear.specs.Times.{times_from}
+use Rattle.arena.specs.Lists.{numbers_from}
 use Rattle.linear.specs.Entries.{is_turn, is_started, is_refused, is_waits, after}
 use Rattle.linear.specs.History.{entry_at, arena_at, event_at, call_at, calls, wait_at, waits as all_waits, totals}
 use Rattle.linear.proofs.MoreTimes.{passing, passing_count, map_same}
@@ -50,7 +50,7 @@ read chunks k = first_entry (get_or chunks k [])
 
 -- no more times pass than there are
 passing_few : (test : ℕ → Bool) (now : ℕ) → length (passing test now) ≤ now
-unfolding times_from
+unfolding numbers_from
 passing_few test zero = omega arith
 passing_few test (suc now) = rw (passing_count test now) (go (test (suc now)) (passing_few test now))
   where
@@ -85,7 +85,7 @@ module _ (r : Schedule) (test : ℕ → Bool) (kind : Entry → Bool) (has : (no
       go false = omega arith
 
   few_pass : (now : ℕ) → now ≤ last r → length (passing test now) ≤ upto now
-  unfolding count_in times_from
+  unfolding count_in numbers_from
   few_pass zero past = omega arith
   few_pass (suc now) past =
       rw (passing_count test now, upto_more now past)
@@ -150,7 +150,7 @@ module _ (workers nodes : ℕ) (schedule lent lent_waits : List ℕ) where
 
   pub begins : (words : List ℕ) → good_counts layout2 workers nodes ≡ true → length words ≡ total layout2 workers nodes →
       Running 0 new_book (init_arena words layout2 workers nodes) lent lent_waits
-  unfolding arena_at times_from flatten
+  unfolding arena_at numbers_from flatten
   begins words good just =
       record {
         good = good;

@@ -149,6 +149,6 @@ totals_of totals =
 abbrev pub totals_values : Totals → List ℕ
 totals_values totals = totals.entries ∷ totals.refused ∷ totals.waits ∷ totals.calls ∷ []
 
--- demand 3, of a run that is done
+-- demand 3, of a run that is done: it begins with an empty set
 abbrev pub DoneLinearizable : Result Totals Refusal → ℕ → ℕ → List ℕ → Type 0
-DoneLinearizable answer workers nodes schedule = OnOk answer (Linearizable (fresh_words layout2 workers nodes) (entries_of schedule))
+DoneLinearizable answer workers nodes schedule = OnOk answer (Linearizable [] (fresh_words layout2 workers nodes) (entries_of schedule))

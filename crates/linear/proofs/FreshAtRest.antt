@@ -1,28 +1,31 @@
--- The fresh arena, decoded: Head and Tail, unused nodes, and idle workers.
+-- A fresh arena is sound and at rest: Head, which leads to Tail, unused nodes, and idle workers. Its set is empty.
 use Prim.Native.Nat.{ℕ, zero, suc, ◌+◌, ◌-◌, ◌≤◌, ◌<◌}
 use mathlib.Core.Path.{◌≡◌, refl, sym, ap, ◌∙◌}
-use mathlib.Core.List.{List, [], ◌∷◌, ◌++◌, flatten, append-nil}
+use mathlib.Core.Logic.{◌≢◌}
+use mathlib.Core.Option.{some}
+use mathlib.Core.List.{List, [], ◌∷◌, ◌++◌, Memᴰ, flatten, append-nil}
 use mathlib.Core.Bool.{Bool, true, false, cond}
 use native.Mathlib.Omega.{arith}
-use native.Mathlib.Decide.{dec_lt}
 use native.Mathlib.Nat.{mul-suc}
 use lib.ListN.{length, replicate, length-append, get_or-append}
 use lib.Seq.{get_or-append-add, get_or-take}
+use borrow.Author.Tests.{eq-eqb}
 use Rattle.std.specs.Prelude.{Some, None}
 use Rattle.worker.specs.Node.{head, tail, head_node, tail_node, unused_node}
 use Rattle.worker.specs.Worker.{idle_worker}
-use Rattle.words.specs.Layout.{word, worker_from, worker_width, slot, good_counts, has_count, header_words, stored_in, node_width, node_key, node_next, node_owner, node_from}
-use Rattle.words.specs.Records.{worker_words, node_words, node_at}
+use Rattle.words.specs.Layout.{word, nodes_of, worker_from, worker_width, slot, good_counts, has_count, header_words, stored_in, node_width, node_key, node_next, node_owner, node_from}
+use Rattle.words.specs.Records.{worker_words, worker_at, node_words, node_at}
 use Rattle.words.specs.Header.{header_refusals}
 use Rattle.words.proofs.Bounds.{Counts, counts, wide, narrow}
 use Rattle.words.proofs.Judged.{none_holds}
-use Rattle.words.proofs.HeaderLaws.{Header}
-use Rattle.words.proofs.RecordLaws.{node_long}
+use Rattle.words.proofs.HeaderLaws.{Header, header_of}
+use Rattle.words.proofs.RecordLaws.{node_long, record_words}
 use Rattle.arena.specs.Init.{fresh_workers, fresh_nodes, fresh_words}
+use Rattle.arena.specs.Sets.{walk, chain, node_in, ChainWhole, set_of, OnChain, top, link}
+use Rattle.arena.specs.AtRest.{SoundAtRest}
 use Rattle.arena.proofs.FreshLaws.{nodes_place, fresh_header}
-use Rattle.linear.proofs.State.{State, decode}
-use Rattle.linear.proofs.Words.{field_in, field_word, no_field}
-use Rattle.linear.proofs.Stepped.{header_of, record_words, known_record, no_record}
+use Rattle.arena.proofs.SetLaws.{set_members}
+use Rattle.linear.proofs.Words.{field_in, field_word}
 use Rattle.linear.proofs.Bridge.{Sound}
 
 -- the fresh arena's header is in order
@@ -36,17 +39,6 @@ fresh_sound layout workers nodes good =
       workers_are = refl;
       nodes_are = refl;
     }
-
--- the fresh arena, decoded
-pub record FreshState (s : State) : Type 0 where
-  pub head_key : s.key head ≡ 0
-  pub head_next : s.next head ≡ tail
-  pub tail_key : s.key tail ≡ 65535
-  pub tail_next : s.next tail ≡ tail
-  pub unused : (n : ℕ) → 2 ≤ n → (s.key n ≡ 0) × (s.next n ≡ 0)
-  pub unowned : (n : ℕ) → s.owner n ≡ 0
-  pub idle : (v : ℕ) → s.worker v ≡ idle_worker
-  pub none_stored : {stored : ℕ} → s.stored ≡ Some stored → stored ≡ 0
 
 -- copies of some words, one after the other: each is those words
 copies_at : (values : List ℕ) (count n k : ℕ) → n < count → k < length values →
@@ -67,6 +59,22 @@ abbrev fresh_fields : ℕ → List ℕ
 fresh_fields zero = 0 ∷ tail ∷ 0 ∷ 0 ∷ 0 ∷ []
 fresh_fields (suc zero) = 65535 ∷ tail ∷ 0 ∷ 0 ∷ 0 ∷ []
 fresh_fields (suc (suc n)) = 0 ∷ 0 ∷ 0 ∷ 0 ∷ 0 ∷ []
+
+-- each of them leads to Head or Tail, and nobody owns it
+fields_rest : (n : ℕ) → (word (fresh_fields n) node_next < 2) × (word (fresh_fields n) node_key ≤ 65535) × (word (fresh_fields n) node_owner ≡ 0)
+fields_rest zero = (omega arith, omega arith, refl)
+fields_rest (suc zero) = (omega arith, omega arith, refl)
+fields_rest (suc (suc n)) = (omega arith, omega arith, refl)
+
+-- a walk that begins at Tail passes no node
+walk_at_tail : (width : ℕ) (words : List ℕ) (count steps last node : ℕ) → node ≡ tail → walk width words count (suc steps) last node ≡ some []
+unfolding walk
+walk_at_tail width words count steps last node e = rw (eq-eqb node tail e)
+
+-- a list in which nothing is, is empty
+none_in : {A : Type 0} (xs : List A) → ((x : A) → Memᴰ x xs → ⊥) → xs ≡ []
+none_in [] out = refl
+none_in (x ∷ xs) out = absurd (out x (Memᴰ.head refl))
 
 -- where a field of a node stands among fresh nodes of some width, it is that node's
 module _ (width nodes : ℕ) (few : width ≤ 5) (some : 2 ≤ nodes) where
@@ -129,26 +137,13 @@ module _ (layout workers nodes : ℕ) (good : good_counts layout workers nodes �
       ∙ get_or-append-add before (fresh_nodes (node_width layout) nodes) at 0
       ∙ laid_at (node_width layout) nodes (narrow layout) (omega (arith, known)) n f there room
 
-  -- from node 2 on every field is 0, whether there is such a node or not
-  unused_field : (n f : ℕ) → f < node_width layout → word (fresh_fields (suc (suc n))) f ≡ 0 → field_in fresh (suc (suc n)) f ≡ 0
-  unfolding fresh_words header_words
-  unused_field n f room zeros =
-      elim (dec_lt (suc (suc n)) nodes) [
-        | yes there ↦ node_field (suc (suc n)) f there room ∙ zeros
-        | no gone ↦ no_field fresh order (suc (suc n)) f (omega arith)
-      ]
-
   -- every worker is idle
-  idle_record : (v : ℕ) → (decode fresh).worker v ≡ idle_worker
+  idle_record : (v : ℕ) → v < workers → worker_at fresh v ≡ idle_worker
   unfolding fresh_words header_words fresh_workers
-  idle_record v =
-      elim (dec_lt v workers) [
-        | yes there ↦ known_record fresh v there ∙ record_words fresh v (word (worker_words idle_worker)) (words there)
-        | no gone ↦ no_record fresh v (omega arith)
-      ]
+  idle_record v there = record_words fresh v (word (worker_words idle_worker)) words
     where
-      words : v < workers → (k : ℕ) → k < worker_width → word fresh (worker_from v + k) ≡ word (worker_words idle_worker) k
-      words there k inside =
+      words : (k : ℕ) → k < worker_width → word fresh (worker_from v + k) ≡ word (worker_words idle_worker) k
+      words k inside =
           let at = slot worker_width v k in
           let header = header_words layout workers nodes 0 in
           let place : worker_from v + k ≡ length header + at = omega arith in
@@ -157,7 +152,39 @@ module _ (layout workers nodes : ℕ) (good : good_counts layout workers nodes �
           ∙ get_or-append-add header (fresh_workers workers) at 0
           ∙ copies_at (worker_words idle_worker) workers v k there inside
 
-  -- and no label is stored
+  -- a node's key, next or owner
+  one : (n f : ℕ) → n < nodes → f ≤ node_owner → field_in fresh n f ≡ word (fresh_fields n) f
+  one n f there room = node_field n f there (omega (arith, wide known))
+
+  key_is : (n : ℕ) → n < nodes → (node_in fresh n).key ≡ word (fresh_fields n) node_key
+  unfolding node_at
+  key_is n there = one n node_key there (omega arith)
+
+  next_is : (n : ℕ) → n < nodes → (node_in fresh n).next ≡ word (fresh_fields n) node_next
+  unfolding node_at
+  next_is n there = one n node_next there (omega arith)
+
+  owner_is : (n : ℕ) → n < nodes → (node_in fresh n).owner ≡ word (fresh_fields n) node_owner
+  unfolding node_at
+  owner_is n there = one n node_owner there (omega arith)
+
+  -- of its chain only Head is not Tail
+  only_head : {n : ℕ} → OnChain (λ m. (node_in fresh m).next) (nodes_of fresh) n → n ≢ tail → n ≡ head
+  only_head (top low) more = refl
+  only_head (link on before low) more =
+      absurd (more (ap (λ m. (node_in fresh m).next) (only_head on before) ∙ next_is head (omega (arith, known))))
+
+  -- it is whole, as Head leads to Tail, and the set is empty
+  whole : ChainWhole fresh
+  unfolding chain
+  whole = rw (walk_at_tail _ _ _ 65535 _ _ (next_is head (omega (arith, known))))
+
+  pub fresh_set : set_of fresh ≡ []
+  fresh_set =
+      none_in (set_of fresh)
+      (λ label m. let inside = (set_members fresh whole label).0 m in inside.not_head (only_head inside.on_chain inside.not_tail))
+
+  -- and no label is counted
   uncounted : {stored : ℕ} → stored_in fresh ≡ Some stored → stored ≡ 0
   unfolding fresh_words header_words
   uncounted {stored} = go (has_count layout)
@@ -166,36 +193,26 @@ module _ (layout workers nodes : ℕ) (good : good_counts layout workers nodes �
       go true e = cc
       go false e = let z : ◌≡◌ {A = ℕ} 0 1 = cc in absurd (omega arith)
 
--- so the fresh arena decodes to a fresh state
-pub fresh_state : (layout workers nodes : ℕ) → good_counts layout workers nodes ≡ true → FreshState (decode (fresh_words layout workers nodes))
-unfolding node_at
-fresh_state layout workers nodes good =
-    record {
-      head_key = one head node_key (omega arith) (omega arith);
-      head_next = one head node_next (omega arith) (omega arith);
-      tail_key = one tail node_key (omega arith) (omega arith);
-      tail_next = one tail node_next (omega arith) (omega arith);
-      unused = unused;
-      unowned = unowned;
-      idle = idle_record layout workers nodes good;
-      none_stored = uncounted layout workers nodes good;
-    }
-  where
-    four : 4 ≤ node_width layout
-    four = wide (known layout workers nodes good)
+  -- all together
+  pub fresh_rests : SoundAtRest fresh
+  fresh_rests =
+      record {
+        header = rw append-nil at (fresh_header layout workers nodes [] good);
+        head_key = key_is head (omega (arith, known));
+        tail_key = key_is tail (omega (arith, known));
+        tail_next = next_is tail (omega (arith, known));
+        inside = λ n there. rw (next_is n (among n there)) (omega (arith, (fields_rest n).0, known, sound.nodes_are));
+        small = λ n there. rw (key_is n (among n there)) (fields_rest n).1;
+        unowned = λ n there. owner_is n (among n there) ∙ (fields_rest n).2;
+        rises = λ n on more.
+            rw (only_head on more, next_is head (omega (arith, known)), key_is head (omega (arith, known)), key_is tail (omega (arith, known)))
+            (omega arith);
+        idle = λ v there. idle_record v (omega (arith, sound.workers_are));
+        counted = λ is. rw fresh_set (uncounted is);
+      }
+    where
+      sound : Sound layout workers nodes fresh
+      sound = fresh_sound layout workers nodes good
 
-    one : (n f : ℕ) → n ≤ 1 → f ≤ node_owner → field_in (fresh_words layout workers nodes) n f ≡ word (fresh_fields n) f
-    one n f low room = node_field layout workers nodes good n f (omega (arith, known layout workers nodes good)) (omega (arith, four))
-
-    unused : (n : ℕ) → 2 ≤ n → ((decode (fresh_words layout workers nodes)).key n ≡ 0) × ((decode (fresh_words layout workers nodes)).next n ≡ 0)
-    unused zero far = absurd (omega arith)
-    unused (suc zero) far = absurd (omega arith)
-    unused (suc (suc n)) far = (
-      unused_field layout workers nodes good n node_key (omega (arith, four)) refl,
-      unused_field layout workers nodes good n node_next (omega (arith, four)) refl,
-    )
-
-    unowned : (n : ℕ) → (decode (fresh_words layout workers nodes)).owner n ≡ 0
-    unowned zero = one head node_owner (omega arith) (omega arith)
-    unowned (suc zero) = one tail node_owner (omega arith) (omega arith)
-    unowned (suc (suc n)) = unused_field layout workers nodes good n node_owner (omega (arith, four)) refl
+      among : (n : ℕ) → n < nodes_of fresh → n < nodes
+      among n there = omega (arith, sound.nodes_are)
