@@ -7,8 +7,8 @@
  *   - a pointer leads to as many words as the length beside it says, `totals` to four; also with length 0 it is not null;
  *   - words lent to one call as different arguments do not overlap;
  *   - nobody else reads or writes the words during the call: a function is one atomic step only where calls on one arena take turns.
- * The library is compiled for x86-64 Linux: some 10 kB of code that keeps nothing between calls, allocates nothing, takes less than 4 kB of
- * stack, and of the C library wants memset and memcpy alone.
+ * The library is compiled for x86-64 Linux: some 12 kB of code that keeps nothing between calls, allocates nothing, takes less than 4 kB of
+ * stack, and of the C library wants memset, memcpy and memmove alone.
  *
  * The arena for W workers (1 to 8) and N nodes (3 to 1,024), its words counted from 0, in one of two layouts:
  *   header, 8 words    layout (1 or 2), W, N, place of the worker records (8), place of the node records (8 + 8 W), total, count, 0;
@@ -19,7 +19,8 @@
  *   node, 4 or 5 words key, next, mark (0 unmarked, anything else marked), owner (0 nobody, otherwise worker + 1), and in layout 2 the
  *                      length of the label: 0 on a fresh arena, then that of the last add that took the node, also once it is removed
  * Node 0 is Head, node 1 is Tail, and 65,535 is no node. Words past the total are never touched.
- * An arena of layout 2 from before the header had a count has 0 there, whatever it stores: it is to be laid anew.
+ * An arena of layout 2 from before the header had a count has 0 there, whatever it stores: it is to be laid anew. One of layout 1 can be written
+ * anew in layout 2, and back.
  *
  * A reply is one number. Its lowest byte is 0, or the number of a refusal and then the whole reply; above it stand the report of a turn, one
  * byte, and up to two values, 16 bits each.
@@ -43,13 +44,13 @@ extern "C" {
 enum lazy_list_refusal {
     LAZY_LIST_ACCEPTED = 0,
     LAZY_LIST_SHORT_ARENA = 1,    /* fewer than 8 words, or than word 5 says; in init and run, fewer than layout and counts need */
-    LAZY_LIST_ODD_HEADER = 2,     /* the first 8 words are not the header of some layout, W, N and count */
+    LAZY_LIST_ODD_HEADER = 2,     /* the first 8 words are not the header of some layout, W, N and count; in a conversion, not of the other layout */
     LAZY_LIST_NO_SUCH_WORKER = 3, /* a worker number of W or more */
-    LAZY_LIST_BUSY = 4,           /* the worker has a call that is not finished */
-    LAZY_LIST_BAD_CALL = 5,       /* an operation that is not 1 to 3, key or last cell 0 or 65,535, or a length that the call may not have */
-    LAZY_LIST_BROKEN_RECORD = 6,  /* a worker record that no turn can work on */
-    LAZY_LIST_BROKEN_CHAIN = 7,   /* a link to no node, or, in a snapshot and a longest free run, keys that do not rise */
-    LAZY_LIST_NO_ROOM = 8,        /* too few words lent for the keys, the calls or the waits */
+    LAZY_LIST_BUSY = 4,           /* the worker, or in a conversion some worker, has a call that is not finished */
+    LAZY_LIST_BAD_CALL = 5,       /* an operation that is not 1 to 3, key or last cell 0 or 65,535, or a length that the call, or a label that is converted, may not have */
+    LAZY_LIST_BROKEN_RECORD = 6,  /* a worker record that no turn can work on; in a start and a conversion, its stage alone */
+    LAZY_LIST_BROKEN_CHAIN = 7,   /* a link to no node, or, where the chain is walked and not stood on, keys that do not rise */
+    LAZY_LIST_NO_ROOM = 8,        /* too few words lent for the keys, the calls, the waits or the converted arena, or too few lengths */
     LAZY_LIST_BAD_SCHEDULE = 9,   /* a number of words that is no multiple of 4, or above 16,000 */
     LAZY_LIST_BAD_COUNTS = 10,    /* a layout that is not 1 or 2, or W or N out of range */
     LAZY_LIST_LENGTHS_MISSING = 13, /* an arena of layout 1, whose labels have no lengths */
@@ -109,6 +110,18 @@ uint64_t lazy_list_stored(const uint16_t *arena, size_t arena_length);
  * to its key plus its length less 1; labels may overlap, and end past the last cell. It is one pass along the chain: its time goes by the
  * nodes there, and not by the cells. Nothing is written. Refused with 1, 2, 5, 7, 13. */
 uint64_t lazy_list_longest_free_run(const uint16_t *arena, size_t arena_length, uint16_t last_cell);
+
+/* From one layout to the other: writes an arena on which every worker is idle anew, in the other layout, into `target`, another arena. Layout,
+ * total and count are new, all other words of the header, the worker records and the first four words of each node are copied as they
+ * stand. To layout 2 `label_lengths` has one length for each node number, N or more: it is used for the nodes of the set, unmarked and on the
+ * chain, where it is to be 1 to 65,534, and key and length together at most 65,535; every other node gets 0. To layout 1 the lengths are
+ * dropped, so each stored label is to be 1 cell long. Words of the target past its total stay, and the source is not written; a refusal leaves
+ * the target as it was. To layout 2 with every length 1, and back, gives the same words. A converted arena can be worked on: if init has laid
+ * the source, and only start and turn have written it, all that is said here of such arenas holds of the converted one too.
+ * Refused with 1, 2, 6, 4, 7, 8, 5. */
+uint64_t lazy_list_to_layout_2(const uint16_t *source, size_t source_length, const uint16_t *label_lengths, size_t label_lengths_length,
+                               uint16_t *target, size_t target_length);
+uint64_t lazy_list_to_layout_1(const uint16_t *source, size_t source_length, uint16_t *target, size_t target_length);
 
 /* Runs a schedule on an arena of layout 2 that it lays itself. An entry is four words: worker, act (0 turn, or an operation to start), key
  * and label length (both not looked at for a turn). A refused entry is counted and the run goes on. Entries are counted from 1; the history

@@ -20,6 +20,7 @@ use Rattle.arena.specs.Stored.{stored_answer}
 use Rattle.lazy.specs.FindFree.{find_free_answer}
 use Rattle.lazy.specs.Turn.{outcome_of, turn_on, turn_answer}
 use Rattle.free_cells.specs.LongestFreeRun.{longest_free_run_refusals, longest_free_run_answer}
+use Rattle.convert.specs.Convert.{convert_refusals, convert_answer}
 use Rattle.linear.specs.Linearizable.{Linearizable}
 use Rattle.schedule.specs.Run.{run_refusals, run_answer, DoneLinearizable}
 use Rattle.schedule.specs.declared.Totals.{Totals}
@@ -114,6 +115,10 @@ module _ (arena : List ℕ) where
   longest_free_run_readable last =
       unreported_readable (longest_free_run_answer arena last) (replied_readable (longest_free_run_refusals arena last) _)
 
+  pub convert_readable : (layout : ℕ) (lengths : List ℕ) (room : ℕ) → Readable (convert_answer layout arena lengths room)
+  unfolding convert_answer
+  convert_readable layout lengths room = replied_readable (convert_refusals layout arena lengths room) []
+
   pub run_readable : (workers nodes : ℕ) (schedule : List ℕ) (call_room wait_room : ℕ) →
       Readable (run_answer arena workers nodes schedule call_room wait_room)
   unfolding run_answer
@@ -126,7 +131,7 @@ module _ (arena : List ℕ) where
 
 -- a run that returns 0 is done
 pub zero_done : (s : Result Totals Refusal) (workers nodes : ℕ) (schedule : List ℕ) → reply_number (reply no_values s) ≡ 0 →
-    DoneLinearizable s workers nodes schedule → Linearizable (fresh_words layout2 workers nodes) (entries_of schedule)
+    DoneLinearizable s workers nodes schedule → Linearizable [] (fresh_words layout2 workers nodes) (entries_of schedule)
 zero_done (Ok totals) workers nodes schedule zero holds = holds
 zero_done (Err refusal) workers nodes schedule zero holds =
     let readable = refusal_readable refusal in absurd (omega (arith, readable.0))

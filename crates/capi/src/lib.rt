@@ -1,7 +1,7 @@
 // The C interface: every entry point over lent 16-bit words, with its reply in one number. include/lazy_list.h declares it.
 #![tactic(auto)]
 
-ghost use Rattle.std.specs.Prelude.{◌≡◌, ◌/◌, length};
+ghost use Rattle.std.specs.Prelude.{◌≡◌, ◌/◌, [], length};
 ghost use Rattle.words.specs.Layout.{layout2};
 ghost use Rattle.words.specs.Replies.{no_values, reply};
 ghost use Rattle.words.specs.Entries.{entries_of};
@@ -12,6 +12,7 @@ ghost use Rattle.arena.specs.Stored.{stored_answer};
 ghost use Rattle.lazy.specs.FindFree.{find_free_answer};
 ghost use Rattle.lazy.specs.Turn.{turn_answer, turn_arena};
 ghost use Rattle.free_cells.specs.LongestFreeRun.{longest_free_run_answer};
+ghost use Rattle.convert.specs.Convert.{to_layout_2_answer, to_layout_2_target, to_layout_1_answer, to_layout_1_target};
 ghost use Rattle.linear.specs.Linearizable.{Linearizable};
 ghost use Rattle.schedule.specs.Run.{call_width, wait_width, totals_values, run_answer, run_arena, run_call_words, run_wait_words};
 ghost use Rattle.capi.specs.Number.{reply_number, unreported, Reads, bare, values_or};
@@ -97,6 +98,28 @@ pub extern "C" fn lazy_list_longest_free_run(arena: &[u16], last_cell: u16) -> u
     number(free_cells::longest_free_run(arena, last_cell))
 }
 
+// Writes an arena of layout 1 in layout 2, with a length for each node number.
+#[unsafe(no_mangle)]
+pub extern "C" fn lazy_list_to_layout_2(
+    source: &[u16],
+    label_lengths: &[u16],
+    target: &mut [u16],
+) -> u64
+    ensures number { result ≡ reply_number (to_layout_2_answer source.now label_lengths.now (length target.old)) }
+    ensures words { target.new ≡ to_layout_2_target source.now label_lengths.now target.old }
+{
+    number(convert::to_layout_2(source, label_lengths, target))
+}
+
+// Writes an arena of layout 2 in layout 1.
+#[unsafe(no_mangle)]
+pub extern "C" fn lazy_list_to_layout_1(source: &[u16], target: &mut [u16]) -> u64
+    ensures number { result ≡ reply_number (to_layout_1_answer source.now (length target.old)) }
+    ensures words { target.new ≡ to_layout_1_target source.now target.old }
+{
+    number(convert::to_layout_1(source, target))
+}
+
 // Runs a schedule on an arena that it lays itself; the totals are entries, refused, waits, calls.
 #[unsafe(no_mangle)]
 pub extern "C" fn lazy_list_run(
@@ -118,7 +141,7 @@ pub extern "C" fn lazy_list_run(
         history.old waits.old }
     ensures totals { totals.new ≡ values_or totals.old (run_answer arena.old workers nodes
         schedule.now (length history.old / call_width) (length waits.old / wait_width)) }
-    ensures linearizable { result ≡ 0 → Linearizable (fresh_words layout2 workers nodes) (entries_of schedule.now) }
+    ensures linearizable { result ≡ 0 → Linearizable [] (fresh_words layout2 workers nodes) (entries_of schedule.now) }
 {
     let summary = schedule::run(arena, workers, nodes, schedule, history, waits);
     number(write_totals(totals, summary))
