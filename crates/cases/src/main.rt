@@ -1,10 +1,11 @@
 // Runs what the starred cases leave out: on layout 1 the limits of the counts, damaged headers, records and chains, a turn at each stage,
-// and nodes used again; on layout 2 lengths, the longest run of free cells, and the count of stored labels. What it prints is held to the
+// and nodes used again; on layout 2 lengths, the longest run of free cells, and the count of stored labels; and arenas converted. What it prints is held to the
 // stored output, which was worked out from documents 01 and 02.
 #![tactic(auto)]
 
 mod calls;
 mod circles;
+mod conversions;
 mod counts;
 mod damage;
 mod free_runs;
@@ -52,5 +53,8 @@ fn all(out: &mut Out) -> fmt::Result {
     free_runs::refusals(out)?;
     counts::kept(out)?;
     counts::ends(out)?;
-    counts::told(out)
+    counts::told(out)?;
+    conversions::renewed(out)?;
+    conversions::there_and_back(out)?;
+    conversions::refusals(out)
 }

@@ -1,2 +1,3 @@
 -- The theorem on the table of histories.
 pub mod Table
+pub mod Converted

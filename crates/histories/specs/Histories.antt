@@ -45,7 +45,7 @@ abbrev pub label : ℕ → ℕ → Label
 label key length = record { key = key; length = length }
 
 -- what is asked of a list of entries: its calls, its waits, its totals, the starts of its calls in order; and at the end the set, on the arena and by
--- the sequential set, and the count of stored labels, if there is one
+-- the sequential set, which begins with the arena's, and the count of stored labels, if there is one
 pub record Told : Type 0 where
   pub calls : List Call
   pub waits : List Wait
@@ -66,7 +66,7 @@ found (row initial entries told) =
       totals = totals initial entries;
       order = map (λ (call : Call). call.start) (in_order initial entries);
       labels = set_of (arena_at initial entries (length entries));
-      sequential = labels_after [] (in_order initial entries);
+      sequential = labels_after (set_of initial) (in_order initial entries);
       stored = stored_in (arena_at initial entries (length entries));
     }
 
@@ -94,6 +94,25 @@ for_one =
     ∷ 0 ∷ 1 ∷ 0 ∷ 0
     ∷ 65535 ∷ 1 ∷ 0 ∷ 0
     ∷ 0 ∷ 0 ∷ 0 ∷ 0
+    ∷ []
+
+-- an arena of layout 1 with 5 stored, as it comes to rest after an add; and converted to layout 2, with length 4 (`Table.old_rests`, `new_converted`)
+abbrev pub old_arena : List ℕ
+old_arena =
+    1 ∷ 1 ∷ 3 ∷ 8 ∷ 16 ∷ 28 ∷ 0 ∷ 0
+    ∷ 0 ∷ 0 ∷ 0 ∷ 65535 ∷ 65535 ∷ 65535 ∷ 0 ∷ 0
+    ∷ 0 ∷ 2 ∷ 0 ∷ 0
+    ∷ 65535 ∷ 1 ∷ 0 ∷ 0
+    ∷ 5 ∷ 1 ∷ 0 ∷ 0
+    ∷ []
+
+abbrev pub new_arena : List ℕ
+new_arena =
+    2 ∷ 1 ∷ 3 ∷ 8 ∷ 16 ∷ 31 ∷ 1 ∷ 0
+    ∷ 0 ∷ 0 ∷ 0 ∷ 65535 ∷ 65535 ∷ 65535 ∷ 0 ∷ 0
+    ∷ 0 ∷ 2 ∷ 0 ∷ 0 ∷ 0
+    ∷ 65535 ∷ 1 ∷ 0 ∷ 0 ∷ 0
+    ∷ 5 ∷ 1 ∷ 0 ∷ 0 ∷ 4
     ∷ []
 
 -- document 01's bench listing, whole, with length 1 for each add (document 02, A2)
@@ -147,6 +166,10 @@ mixed =
     ++ turn 0 9
     ++ turn 1 1
     ++ turn 7 1
+
+-- on an arena with a label: it is looked up and taken out, and another one is put in
+abbrev pub onward : List Entry
+onward = start contains 0 5 0 ++ turn 0 6 ++ start remove 0 5 0 ++ turn 0 15 ++ start add 0 7 2 ++ turn 0 14
 
 abbrev pub histories : List History
 histories =
@@ -208,6 +231,20 @@ histories =
       order = 1 ∷ [];
       labels = label 5 9 ∷ [];
       sequential = label 5 9 ∷ [];
+      stored = Some 1;
+    })
+    ∷ row new_arena onward
+    (record {
+      calls =
+          call 0 contains 5 0 1 6 7 (answer_number Yes)
+          ∷ call 0 remove 5 0 8 18 23 (answer_number Yes)
+          ∷ call 0 add 7 2 24 35 38 (answer_number Yes)
+          ∷ [];
+      waits = [];
+      totals = total 38 0 0 3;
+      order = 1 ∷ 8 ∷ 24 ∷ [];
+      labels = label 7 2 ∷ [];
+      sequential = label 7 2 ∷ [];
       stored = Some 1;
     })
     ∷ []

@@ -1,2 +1,3 @@
 -- Histories of some lists of entries: the requirement's bench listing among them.
 pub mod Histories
+pub mod Converted

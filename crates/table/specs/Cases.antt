@@ -17,10 +17,11 @@ use Rattle.arena.specs.Stored.{stored_answer}
 use Rattle.lazy.specs.FindFree.{find_free_answer}
 use Rattle.lazy.specs.Turn.{turn_answer, turn_arena}
 use Rattle.free_cells.specs.LongestFreeRun.{longest_free_run_answer}
+use Rattle.convert.specs.Convert.{convert_answer, convert_target}
 
 -- what is asked of an arena: init with layout, W and N, a start with worker, operation, key and length, so many turns of a worker, a
 -- snapshot with so much room, the lowest free node, the longest free run up to a last cell, the count of stored labels, or the word at a place;
--- or another word is written there
+-- or another word is written there; or it is converted to a layout, with lent lengths, into so many zeros, and these are what is asked then
 pub data Ask : Type 0 where
   init : ℕ → ℕ → ℕ → Ask
   start : ℕ → ℕ → ℕ → ℕ → Ask
@@ -31,6 +32,7 @@ pub data Ask : Type 0 where
   size : Ask
   look : ℕ → Ask
   write : ℕ → ℕ → Ask
+  convert : ℕ → List ℕ → ℕ → Ask
 
 abbrev pub after_turns : List ℕ → ℕ → ℕ → List ℕ
 after_turns arena worker zero = arena
@@ -52,6 +54,7 @@ reply_to arena (longest last) = longest_free_run_answer arena last
 reply_to arena size = stored_answer arena
 reply_to arena (look at) = accepted (word arena at ∷ [])
 reply_to arena (write at value) = accepted []
+reply_to arena (convert layout lengths room) = convert_answer layout arena lengths room
 
 -- and the arena afterwards
 abbrev pub arena_after : List ℕ → Ask → List ℕ
@@ -64,6 +67,7 @@ arena_after arena (longest last) = arena
 arena_after arena size = arena
 arena_after arena (look at) = arena
 arena_after arena (write at value) = set arena at value
+arena_after arena (convert layout lengths room) = convert_target layout arena lengths (replicate room 0)
 
 abbrev pub arena_after_all : List ℕ → List Ask → List ℕ
 arena_after_all arena [] = arena
@@ -98,12 +102,23 @@ stored operation = small ∷ start 0 add 5 0 ∷ turns 0 14 ∷ start 0 operatio
 abbrev pub removing : ℕ → List Ask
 removing count = stored remove ++ turns 0 count ∷ []
 
--- on layout 2 only a label from cell 5 to 7 stored; and after so many turns of its remove
+-- on layout 2 only a label from cell 5 on stored, of so many cells, or of three; and after so many turns of its remove
+abbrev pub labelled_by : ℕ → List Ask
+labelled_by cells = small2 ∷ start 0 add 5 cells ∷ turns 0 14 ∷ []
+
 abbrev pub labelled : List Ask
-labelled = small2 ∷ start 0 add 5 3 ∷ turns 0 14 ∷ []
+labelled = labelled_by 3
 
 abbrev pub unlabelling : ℕ → List Ask
 unlabelling count = labelled ++ start 0 remove 5 0 ∷ turns 0 count ∷ []
+
+-- an old arena with only 5 stored, at rest
+abbrev pub old : List Ask
+old = small ∷ start 0 add 5 0 ∷ turns 0 14 ∷ []
+
+-- and with lengths for Head, Tail and node 2, in so many words
+abbrev pub renewed : ℕ → ℕ → Ask
+renewed cells room = convert layout2 (7 ∷ 8 ∷ cells ∷ []) room
 
 -- with another count, after so many turns of that add, and of that remove
 abbrev pub adding_on : ℕ → ℕ → List Ask
@@ -214,4 +229,38 @@ cases =
     ∷ row 31 (removing_on 0 9 ++ turns 0 1 ∷ []) (look (worker_from 0 + worker_stage)) (accepted (16 ∷ []))
     ∷ row 31 (removing_on 0 11) (turns 0 1) (report_reply (Moved 19))
     ∷ row 31 (removing_on 0 9 ++ write (worker_from 0 + worker_operation) add ∷ []) (turns 0 1) (refusing BrokenRecord)
+    -- an old arena with 5 stored becomes a new one of 31 words: layout, total and count are new, the length of node 2 is the one lent, and Head's
+    -- and Tail's are 0; then cells 5 to 7 are in a label, and 5 can be taken out (document 02, A7)
+    ∷ row 28 old (renewed 3 31) (accepted [])
+    ∷ row 28 (old ++ renewed 3 31 ∷ []) (look 0) (accepted (2 ∷ []))
+    ∷ row 28 (old ++ renewed 3 31 ∷ []) (look 5) (accepted (31 ∷ []))
+    ∷ row 28 (old ++ renewed 3 31 ∷ []) (look 20) (accepted (0 ∷ []))
+    ∷ row 28 (old ++ renewed 3 31 ∷ []) (look 25) (accepted (0 ∷ []))
+    ∷ row 28 (old ++ renewed 3 31 ∷ []) (look 30) (accepted (3 ∷ []))
+    ∷ row 28 (old ++ renewed 3 31 ∷ []) size (accepted (1 ∷ []))
+    ∷ row 28 (old ++ renewed 3 31 ∷ []) (longest 12) (accepted (8 ∷ 5 ∷ []))
+    ∷ row 28 (old ++ renewed 3 31 ∷ start 0 remove 5 0 ∷ []) (turns 0 15) (report_reply (Finished Yes))
+    -- a node that was taken out gets length 0, and is not counted
+    ∷ row 28 (removing 15 ++ renewed 3 31 ∷ []) (look 30) (accepted (0 ∷ []))
+    ∷ row 28 (removing 15 ++ renewed 3 31 ∷ []) size (accepted (0 ∷ []))
+    -- a short source: 1; a source of the layout wanted: 2; a busy worker: 4; 30 words, or lengths for two of three nodes: 8; length 0: 5
+    ∷ row 7 [] (renewed 3 31) (refusing ShortArena)
+    ∷ row 31 labelled (renewed 3 31) (refusing OddHeader)
+    ∷ row 28 (stored contains) (renewed 3 31) (refusing Busy)
+    ∷ row 28 old (renewed 3 30) (refusing NoRoom)
+    ∷ row 28 old (convert layout2 (7 ∷ 8 ∷ []) 31) (refusing NoRoom)
+    ∷ row 28 old (renewed 0 31) (refusing BadCall)
+    ∷ row 28 old (renewed 65530 31) (accepted [])
+    ∷ row 28 old (renewed 65531 31) (refusing BadCall)
+    -- stage 26 of worker 1: 6, though worker 0 is busy
+    ∷ row 36 (two_adds ++ write (worker_from 1 + worker_stage) 26 ∷ []) (convert layout2 [] 39) (refusing BrokenRecord)
+    -- the way back: with length 1 it is accepted, in 28 words, and the count is dropped; with length 2: 5; an old arena: 2; 27 words: 8
+    ∷ row 31 (labelled_by 1) (convert layout1 [] 28) (accepted [])
+    ∷ row 31 (labelled_by 1 ++ convert layout1 [] 28 ∷ []) (look 5) (accepted (28 ∷ []))
+    ∷ row 31 (labelled_by 1 ++ convert layout1 [] 28 ∷ []) (look stored_at) (accepted (0 ∷ []))
+    ∷ row 31 (labelled_by 1 ++ convert layout1 [] 28 ∷ []) (look 24) (accepted (5 ∷ []))
+    ∷ row 31 (labelled_by 1 ++ convert layout1 [] 28 ∷ start 0 contains 5 0 ∷ []) (turns 0 6) (report_reply (Finished Yes))
+    ∷ row 31 (labelled_by 2) (convert layout1 [] 28) (refusing BadCall)
+    ∷ row 28 old (convert layout1 [] 28) (refusing OddHeader)
+    ∷ row 31 (labelled_by 1) (convert layout1 [] 27) (refusing NoRoom)
     ∷ []
