@@ -7,11 +7,14 @@ use crate::limits::CASES;
 use crate::linearizable::{check_times, check_told, explained};
 use crate::rng::Rng;
 use crate::run::Call;
+use crate::selftest_convert;
+use crate::selftest_convert_refusals;
 use crate::selftest_counts;
 use crate::selftest_free;
 use crate::selftest_free_runs;
 use crate::selftest_lengths;
 use crate::selftest_plain;
+use crate::selftest_plain_convert;
 use crate::selftest_plain_free_runs;
 use crate::selftest_refusals;
 use crate::selftest_roll;
@@ -139,6 +142,9 @@ pub fn selftest() -> Checks {
     selftest_plain::plain_runs(&mut checks);
     selftest_free_runs::free_runs(&mut checks);
     selftest_plain_free_runs::plain_free_runs(&mut checks);
+    selftest_convert::converters(&mut checks);
+    selftest_convert_refusals::refusals(&mut checks);
+    selftest_plain_convert::plain_converters(&mut checks);
     checks
 }
 

@@ -1,6 +1,7 @@
 //! Checks on arenas of any words.
 
 use crate::arena::*;
+use crate::convert::{to_layout_1, to_layout_2};
 use crate::rng::Rng;
 use crate::selftest::Checks;
 use crate::selftest_refusals::SHAPES;
@@ -48,6 +49,11 @@ fn any_words_in(checks: &mut Checks, shape: Shape, total: usize) {
             Err(_) => unharmed &= out == [3; 2],
         }
         unharmed &= set(&arena).len() <= MAX_NODES as usize;
+        let mut target = [3; 60];
+        let converted = to_layout_2(&arena, &[1; 4], &mut target);
+        let converted = converted.or_else(|_| to_layout_1(&arena, &mut target));
+        rolls_are_sets &= converted.is_err() || keys_of(&set(&target)) == keys_of(&set(&arena));
+        unharmed &= converted.is_ok() || target == [3; 60];
     }
     checks.check("refusals on any words write nothing", unharmed);
     checks.check("rolls of any words are sets", rolls_are_sets);

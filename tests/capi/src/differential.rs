@@ -3,11 +3,15 @@
 mod arenas;
 mod chain;
 mod comparer;
+mod conversions;
+mod converted;
 mod coverage;
 mod damaged;
 mod free_runs;
 mod lent;
 mod met;
+mod met_conversion_refusals;
+mod met_conversions;
 mod met_counts;
 mod met_free_runs;
 mod met_lengths;
@@ -18,9 +22,15 @@ mod reached;
 mod requests;
 mod roots;
 mod schedules;
+mod sources;
 mod spread;
 pub mod tally;
 pub mod wrong;
+mod wrong_conversion_lengths;
+mod wrong_conversion_orders;
+mod wrong_conversion_refusals;
+mod wrong_conversion_words;
+mod wrong_conversions;
 mod wrong_counts;
 mod wrong_free_replies;
 mod wrong_free_runs;
@@ -150,8 +160,8 @@ impl<'a> Examiner<'a> {
         }
     }
 
-    /// Compares on one arena: turn (twice, since it has the most cases), start and those that write
-    /// nothing in it always; init and run, which do not look at what an arena holds, now and then.
+    /// Compares on one arena: turn (twice, since it has the most cases), start, those that write nothing
+    /// in it and a converter always; init and run, which do not look at what an arena holds, now and then.
     fn arena(&mut self, number: u64, arenas: &Arenas, rng: &mut Rng) {
         let words = &arenas.words;
         let chain = Chain::of(words);
@@ -164,6 +174,7 @@ impl<'a> Examiner<'a> {
         self.compare(number, words, &Request::FindFree);
         self.compare(number, words, &requests::longest_free_run(rng, chain));
         self.compare(number, words, &Request::Stored);
+        self.convert(number, words, rng);
         if rng.chance(5) {
             let (length, init) = requests::init(rng);
             self.compare(number, &fitted(words, length), &init);
@@ -175,25 +186,38 @@ impl<'a> Examiner<'a> {
     }
 
     fn compare(&mut self, number: u64, words: &[u16], request: &Request) {
-        let kind = Kind::of(number);
+        let is_reached = Kind::of(number).is_reached();
+        self.compare_from(number, is_reached, words, request);
+    }
+
+    /// On words that came from the arena of this number; gives the model's reply.
+    fn compare_from(
+        &mut self,
+        number: u64,
+        is_reached: bool,
+        words: &[u16],
+        request: &Request,
+    ) -> u64 {
         let outcome = self.comparer.compare(words, request);
         let reply = outcome.model_reply;
-        self.note(kind, words, request, reply);
+        self.note(is_reached, words, request, reply);
         if self.tells_all {
             println!("{request}: the model's reply is {reply}");
         }
+        let kind = Kind::of(number);
         self.tally.comparison(kind, outcome.is_same());
         if !outcome.is_same() {
             let seed = self.seed;
             self.tally
                 .mismatch(number, || describe(seed, number, request, &outcome));
         }
+        reply
     }
 
     /// Notes what the model was asked last, and replied.
-    fn note(&mut self, kind: Kind, words: &[u16], request: &Request, reply: u64) {
+    fn note(&mut self, reached: bool, words: &[u16], request: &Request, reply: u64) {
         let Tally { coverage, met, .. } = &mut self.tally;
-        let (reached, stage) = (kind.is_reached(), stage_before(words, request));
+        let stage = stage_before(words, request);
         let column = Column::of(layout_of(words, request), reached);
         coverage.note(request.entry_point(), reply, stage, column);
         if let Some(wait) = TurnWait::read(words, request, reply) {

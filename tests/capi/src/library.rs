@@ -1,6 +1,7 @@
 //! The entry points of include/lazy_list.h, of the proved library and of the model.
 
 use model::arena;
+use model::convert;
 use model::count;
 use model::free;
 use model::free_run;
@@ -21,6 +22,10 @@ pub trait Library: Sync {
     fn find_free(&self, arena: &[u16]) -> u64;
     fn longest_free_run(&self, arena: &[u16], last_cell: u16) -> u64;
     fn stored(&self, arena: &[u16]) -> u64;
+    /// Source and lengths are lent for writing, so that a library that writes them is only wrong.
+    fn to_layout_2(&self, source: &mut [u16], lengths: &mut [u16], target: &mut [u16]) -> u64;
+    /// So is the source here.
+    fn to_layout_1(&self, source: &mut [u16], target: &mut [u16]) -> u64;
     fn run(&self, run: Run) -> u64;
 }
 
@@ -94,6 +99,20 @@ mod c {
         pub fn lazy_list_find_free(arena: *const u16, length: usize) -> u64;
         pub fn lazy_list_longest_free_run(arena: *const u16, length: usize, last_cell: u16) -> u64;
         pub fn lazy_list_stored(arena: *const u16, length: usize) -> u64;
+        pub fn lazy_list_to_layout_2(
+            source: *const u16,
+            source_length: usize,
+            label_lengths: *const u16,
+            label_lengths_length: usize,
+            target: *mut u16,
+            target_length: usize,
+        ) -> u64;
+        pub fn lazy_list_to_layout_1(
+            source: *const u16,
+            source_length: usize,
+            target: *mut u16,
+            target_length: usize,
+        ) -> u64;
         pub fn lazy_list_run(
             arena: *mut u16,
             length: usize,
@@ -155,6 +174,30 @@ impl Library for Proved {
 
     fn stored(&self, arena: &[u16]) -> u64 {
         unsafe { c::lazy_list_stored(arena.as_ptr(), arena.len()) }
+    }
+
+    fn to_layout_2(&self, source: &mut [u16], lengths: &mut [u16], target: &mut [u16]) -> u64 {
+        unsafe {
+            c::lazy_list_to_layout_2(
+                source.as_mut_ptr(),
+                source.len(),
+                lengths.as_mut_ptr(),
+                lengths.len(),
+                target.as_mut_ptr(),
+                target.len(),
+            )
+        }
+    }
+
+    fn to_layout_1(&self, source: &mut [u16], target: &mut [u16]) -> u64 {
+        unsafe {
+            c::lazy_list_to_layout_1(
+                source.as_mut_ptr(),
+                source.len(),
+                target.as_mut_ptr(),
+                target.len(),
+            )
+        }
     }
 
     fn run(&self, run: Run) -> u64 {
@@ -219,6 +262,11 @@ pub fn number(reply: Result<Values, u16>) -> u64 {
     }
 }
 
+/// The reply of a call that has no values.
+pub fn nothing_told(done: Result<(), u16>) -> u64 {
+    number(done.map(|()| Values::default()))
+}
+
 fn report_values(report: turn::Report) -> Values {
     let (report, first, second) = match report {
         turn::Report::Idle => (IDLE, 0, 0),
@@ -268,12 +316,16 @@ pub fn free_run_values(run: free_run::FreeRun) -> Values {
 
 impl Library for Model {
     fn init(&self, arena: &mut [u16], layout: u16, workers: u16, nodes: u16) -> u64 {
-        number(arena::init(arena, layout, workers, nodes).map(|()| Values::default()))
+        nothing_told(arena::init(arena, layout, workers, nodes))
     }
 
     fn start(&self, arena: &mut [u16], worker: u16, call: Start) -> u64 {
-        let started = arena::start(arena, worker, call.operation, call.key, call.length);
-        number(started.map(|()| Values::default()))
+        let Start {
+            operation,
+            key,
+            length,
+        } = call;
+        nothing_told(arena::start(arena, worker, operation, key, length))
     }
 
     fn turn(&self, arena: &mut [u16], worker: u16) -> u64 {
@@ -294,6 +346,14 @@ impl Library for Model {
 
     fn stored(&self, arena: &[u16]) -> u64 {
         number(count::stored(arena).map(stored_values))
+    }
+
+    fn to_layout_2(&self, source: &mut [u16], lengths: &mut [u16], target: &mut [u16]) -> u64 {
+        nothing_told(convert::to_layout_2(source, lengths, target))
+    }
+
+    fn to_layout_1(&self, source: &mut [u16], target: &mut [u16]) -> u64 {
+        nothing_told(convert::to_layout_1(source, target))
     }
 
     fn run(&self, run: Run) -> u64 {

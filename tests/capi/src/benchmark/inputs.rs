@@ -3,6 +3,7 @@
 use std::ops::Range;
 
 use model::arena::*;
+use model::convert::to_layout_1;
 use model::plain;
 use model::rng::Rng;
 use model::run::ENTRY_WORDS;
@@ -291,4 +292,36 @@ pub fn free_runs(labels: u16) -> Repeated {
     };
     let arena = arena_with_labels(MAX_NODES, (0..labels).map(label));
     repeated(arena, 0, Call::LongestFreeRun { last_cell })
+}
+
+/// One for each node of the largest arena.
+fn some_lengths() -> Vec<u16> {
+    let mut rng = Rng::new(SEED, 4);
+    (0..MAX_NODES).map(|_| rng.word(1, 60)).collect()
+}
+
+/// The arena of layout 2 with so many labels of length 1, and the same in layout 1.
+fn in_both_layouts(labels: u16) -> [Vec<u16>; 2] {
+    let label = |place| Label {
+        key: 2 * place,
+        length: 1,
+    };
+    let new = arena_with_labels(MAX_NODES, (1..=labels).map(label));
+    let mut old = fresh(LAYOUT_1, MAX_NODES);
+    to_layout_1(&new, &mut old).expect("labels of length 1");
+    [old, new]
+}
+
+/// Conversions of an arena of layout 1 with so many labels, each with a length of its own.
+pub fn to_layout_2_of(labels: u16) -> Repeated {
+    let [old, new] = in_both_layouts(labels);
+    let mut repeated = repeated(old, new.len(), Call::ToLayout2);
+    repeated.words.lengths = some_lengths();
+    repeated
+}
+
+/// Conversions of an arena of layout 2 with so many labels.
+pub fn to_layout_1_of(labels: u16) -> Repeated {
+    let [old, new] = in_both_layouts(labels);
+    repeated(new, old.len(), Call::ToLayout1)
 }

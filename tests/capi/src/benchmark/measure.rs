@@ -15,8 +15,10 @@ const ROUND: Duration = Duration::from_millis(2);
 #[derive(Clone, PartialEq, Eq)]
 pub struct Words {
     pub arena: Vec<u16>,
-    /// Room for the keys of a snapshot or for the histories of runs.
+    /// Room for the keys of a snapshot, for the histories of runs or for a converted arena.
     pub out: Vec<u16>,
+    /// Of labels, for a converter.
+    pub lengths: Vec<u16>,
     /// Room for the waits of runs.
     pub waits: Vec<u16>,
     pub totals: [u16; 4],
@@ -27,6 +29,7 @@ impl Words {
         Words {
             arena,
             out: vec![0; out_words],
+            lengths: Vec::new(),
             waits: Vec::new(),
             totals: [0; 4],
         }
@@ -36,6 +39,7 @@ impl Words {
     fn reset(&mut self, first: &Words) {
         self.arena.copy_from_slice(&first.arena);
         self.out.copy_from_slice(&first.out);
+        self.lengths.copy_from_slice(&first.lengths);
         self.waits.copy_from_slice(&first.waits);
         self.totals = first.totals;
     }

@@ -1,9 +1,12 @@
 //! The Rust side: what one would write for use, behind the same interface as the proved library.
 
 use model::plain;
+use model::plain_convert;
 use model::plain_free_run;
 
-use crate::library::{free_run_values, number, total_words, Library, Model, Run, Start};
+use crate::library::{
+    free_run_values, nothing_told, number, total_words, Library, Model, Run, Start,
+};
 
 /// Calls of the proved library cannot be inlined, so these are not either. Where the model's way is one
 /// for use, it is taken: header test, turns and with them the count.
@@ -44,6 +47,18 @@ impl Library for PlainRust {
     #[inline(never)]
     fn stored(&self, arena: &[u16]) -> u64 {
         Model.stored(arena)
+    }
+
+    /// Not the model's, which gathers the set.
+    #[inline(never)]
+    fn to_layout_2(&self, source: &mut [u16], lengths: &mut [u16], target: &mut [u16]) -> u64 {
+        nothing_told(plain_convert::to_layout_2(source, lengths, target))
+    }
+
+    /// As the last one.
+    #[inline(never)]
+    fn to_layout_1(&self, source: &mut [u16], target: &mut [u16]) -> u64 {
+        nothing_told(plain_convert::to_layout_1(source, target))
     }
 
     /// Not the model's, which keeps the set at every time.

@@ -55,6 +55,14 @@ pub fn side_by_side(rounds: usize, show: &mut dyn FnMut(Row)) {
     free_run("longest_free_run, 1,022 labels", 1_022);
     let counts = inputs::counts(1_024);
     show(other("stored, 1,022 keys", &counts, rounds));
+    let mut to_2 = |what, labels| show(other(what, &inputs::to_layout_2_of(labels), rounds));
+    to_2("to_layout_2, 10 labels", 10);
+    to_2("to_layout_2, 100 labels", 100);
+    to_2("to_layout_2, 1,022 labels", 1_022);
+    let mut to_1 = |what, labels| show(other(what, &inputs::to_layout_1_of(labels), rounds));
+    to_1("to_layout_1, 10 labels", 10);
+    to_1("to_layout_1, 100 labels", 100);
+    to_1("to_layout_1, 1,022 labels", 1_022);
 }
 
 fn other(what: &'static str, work: &impl Workload, rounds: usize) -> Row {

@@ -119,6 +119,7 @@ impl Workload for Runs {
             out,
             waits,
             totals,
+            ..
         } = words;
         let histories = out.chunks_exact_mut(self.history_words);
         let rows = histories.zip(&self.waits_rows);
@@ -152,21 +153,25 @@ pub enum Call {
         last_cell: u16,
     },
     Stored,
+    ToLayout2,
+    ToLayout1,
 }
 
 impl Call {
     fn reply<L: Library>(&self, library: &L, words: &mut Words) -> u64 {
-        let arena = &mut words.arena;
+        let (arena, out) = (&mut words.arena, &mut words.out);
         match *self {
             Call::Init {
                 layout,
                 workers,
                 nodes,
             } => library.init(arena, layout, workers, nodes),
-            Call::Snapshot => library.snapshot(arena, &mut words.out),
+            Call::Snapshot => library.snapshot(arena, out),
             Call::FindFree => library.find_free(arena),
             Call::LongestFreeRun { last_cell } => library.longest_free_run(arena, last_cell),
             Call::Stored => library.stored(arena),
+            Call::ToLayout2 => library.to_layout_2(arena, &mut words.lengths, out),
+            Call::ToLayout1 => library.to_layout_1(arena, out),
         }
     }
 }

@@ -68,6 +68,22 @@ impl<'a> Chain<'a> {
         nodes.filter(|&&node| !self.is_marked(node)).count()
     }
 
+    /// Those nodes, in chain order.
+    pub fn listed_nodes(&self) -> Vec<u16> {
+        let mut nodes = self.nodes.clone();
+        nodes.retain(|&node| !self.is_marked(node));
+        nodes
+    }
+
+    /// By number, which nodes of the arena are among these.
+    pub fn row_of(&self, nodes: &[u16]) -> Vec<bool> {
+        let mut row = vec![false; self.shape.nodes.into()];
+        for &node in nodes {
+            row[usize::from(node)] = true;
+        }
+        row
+    }
+
     /// The node before this place in the chain.
     pub fn before(&self, place: usize) -> u16 {
         place

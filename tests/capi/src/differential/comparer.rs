@@ -12,6 +12,8 @@ const MOST_WORDS: usize = 30_000;
 struct Desk {
     arena: Lent,
     keys: Lent,
+    lengths: Lent,
+    target: Lent,
     schedule: Lent,
     history: Lent,
     waits: Lent,
@@ -61,23 +63,24 @@ impl<'a> Comparer<'a> {
             .tested
             .ask(self.library, arena, request, &self.background);
         let model_reply = self.model.ask(&Model, arena, request, &self.background);
-        let (tested, model) = (&self.tested, &self.model);
-        let mut first = difference("arena", &tested.arena, &model.arena);
-        if let Request::Snapshot { .. } = request {
-            first = first.or_else(|| difference("keys", &tested.keys, &model.keys));
-        }
-        if let Request::Run { .. } = request {
-            first = first
-                .or_else(|| difference("schedule", &tested.schedule, &model.schedule))
-                .or_else(|| difference("history", &tested.history, &model.history))
-                .or_else(|| difference("waits", &tested.waits, &model.waits))
-                .or_else(|| difference("totals", &tested.totals, &model.totals));
-        }
+        let tested = self.tested.lent(request);
+        let mut both = tested.into_iter().zip(self.model.lent(request));
+        let first = both.find_map(|((name, tested), (_, model))| difference(name, tested, model));
         Outcome {
             tested_reply,
             model_reply,
             difference: first,
         }
+    }
+
+    /// The arena as the model left it.
+    pub fn last_arena(&self) -> &[u16] {
+        self.model.arena.words()
+    }
+
+    /// The target as the model left it in the last conversion.
+    pub fn last_target(&self) -> &[u16] {
+        self.model.target.words()
     }
 
     /// The words in which the model wrote the keys of the last snapshot.
@@ -119,26 +122,59 @@ impl Desk {
                 library.longest_free_run(self.arena.words(), last_cell)
             }
             Request::Stored => library.stored(self.arena.words()),
+            Request::ToLayout2 { .. } => library.to_layout_2(
+                self.arena.words_mut(),
+                self.lengths.words_mut(),
+                self.target.words_mut(),
+            ),
+            Request::ToLayout1 { .. } => {
+                library.to_layout_1(self.arena.words_mut(), self.target.words_mut())
+            }
             Request::Run { workers, nodes, .. } => self.run(library, workers, nodes),
         }
     }
 
     /// The words besides the arena.
     fn lend_rows(&mut self, request: &Request, background: &[u16]) {
-        match *request {
-            Request::Snapshot { room } => self.keys.lend(&background[..room]),
+        match request {
+            Request::Snapshot { room } => self.keys.lend(&background[..*room]),
+            Request::ToLayout2 { lengths, target } => {
+                self.lengths.lend(lengths);
+                self.target.lend(target);
+            }
+            Request::ToLayout1 { target } => self.target.lend(target),
             Request::Run {
-                ref schedule,
+                schedule,
                 history_length,
                 waits_length,
                 ..
             } => {
                 self.schedule.lend(schedule);
-                self.history.lend(&background[..history_length]);
-                self.waits.lend(&background[..waits_length]);
+                self.history.lend(&background[..*history_length]);
+                self.waits.lend(&background[..*waits_length]);
                 self.totals.lend(&background[..4]);
             }
             _ => {}
+        }
+    }
+
+    /// All that was lent, by name.
+    fn lent(&self, request: &Request) -> Vec<(&'static str, &Lent)> {
+        let arena = ("arena", &self.arena);
+        match request {
+            Request::Snapshot { .. } => vec![arena, ("keys", &self.keys)],
+            Request::ToLayout2 { .. } => {
+                vec![arena, ("lengths", &self.lengths), ("target", &self.target)]
+            }
+            Request::ToLayout1 { .. } => vec![arena, ("target", &self.target)],
+            Request::Run { .. } => vec![
+                arena,
+                ("schedule", &self.schedule),
+                ("history", &self.history),
+                ("waits", &self.waits),
+                ("totals", &self.totals),
+            ],
+            _ => vec![arena],
         }
     }
 

@@ -24,7 +24,7 @@ impl Column {
 }
 
 /// The refusals of each entry point, in the documents' order.
-const REFUSALS: [(EntryPoint, &str, &[u64]); 8] = [
+const REFUSALS: [(EntryPoint, &str, &[u64]); 10] = [
     (EntryPoint::Init, "init", &[10, 1]),
     (EntryPoint::Start, "start", &[1, 2, 3, 6, 4, 5]),
     (EntryPoint::Turn, "turn", &[1, 2, 3, 6, 7, 14]),
@@ -36,13 +36,15 @@ const REFUSALS: [(EntryPoint, &str, &[u64]); 8] = [
         &[1, 2, 5, 7, 13],
     ),
     (EntryPoint::Stored, "stored", &[1, 2]),
+    (EntryPoint::ToLayout2, "to_layout_2", &[1, 2, 6, 4, 7, 8, 5]),
+    (EntryPoint::ToLayout1, "to_layout_1", &[1, 2, 6, 4, 7, 8, 5]),
     (EntryPoint::Run, "run", &[10, 9, 1, 8]),
 ];
 const ACCEPTED: u64 = 0;
 /// Of all refusals, and 0.
 const REPLIES: usize = BROKEN_COUNT as usize + 1;
 /// What may be met where neither layout is named.
-const WITHOUT_LAYOUT: [(EntryPoint, u64); 13] = [
+const WITHOUT_LAYOUT: [(EntryPoint, u64); 17] = [
     (EntryPoint::Init, 10),
     (EntryPoint::Start, 1),
     (EntryPoint::Start, 2),
@@ -56,17 +58,25 @@ const WITHOUT_LAYOUT: [(EntryPoint, u64); 13] = [
     (EntryPoint::LongestFreeRun, 2),
     (EntryPoint::Stored, 1),
     (EntryPoint::Stored, 2),
+    (EntryPoint::ToLayout2, 1),
+    (EntryPoint::ToLayout2, 2),
+    (EntryPoint::ToLayout1, 1),
+    (EntryPoint::ToLayout1, 2),
 ];
 
 /// What no arena reached from a fresh one may meet. The documents say it of turns; for the others it
 /// follows, since stages stay in their range and keys rise along every chain.
-const NEVER_FROM_FRESH: [(EntryPoint, u64); 6] = [
+const NEVER_FROM_FRESH: [(EntryPoint, u64); 10] = [
     (EntryPoint::Turn, 6),
     (EntryPoint::Turn, 7),
     (EntryPoint::Turn, 14),
     (EntryPoint::Start, 6),
     (EntryPoint::Snapshot, 7),
     (EntryPoint::LongestFreeRun, 7),
+    (EntryPoint::ToLayout2, 6),
+    (EntryPoint::ToLayout2, 7),
+    (EntryPoint::ToLayout1, 6),
+    (EntryPoint::ToLayout1, 7),
 ];
 
 /// In which layouts a reply may be met.
@@ -79,6 +89,10 @@ fn layouts(entry_point: EntryPoint, refusal: u64) -> [bool; LAYOUTS.len()] {
         (EntryPoint::LongestFreeRun, 13) => [true, false],
         // Nor does it count.
         (EntryPoint::Turn, 14) => [false, true],
+        // Each takes one layout, and refuses the other with 2.
+        (EntryPoint::ToLayout2 | EntryPoint::ToLayout1, 1 | 2) => [true, true],
+        (EntryPoint::ToLayout2, _) => [true, false],
+        (EntryPoint::ToLayout1, _) => [false, true],
         _ => [true, true],
     }
 }
@@ -145,6 +159,10 @@ pub struct Coverage {
     not_the_longest: u64,
     /// Counts of layout 2, on arenas reached from a fresh one, that are not the size of the set.
     not_the_size: u64,
+    /// Converted arenas whose set, with the lengths lent, is not the source's.
+    other_set: u64,
+    /// Ways back that do not lead to the source.
+    astray: u64,
 }
 
 impl Coverage {
@@ -192,6 +210,16 @@ impl Coverage {
         self.not_the_size += u64::from(!is_the_size);
     }
 
+    /// Notes an accepted conversion.
+    pub fn note_conversion(&mut self, is_same_set: bool) {
+        self.other_set += u64::from(!is_same_set);
+    }
+
+    /// Notes a conversion of what was converted.
+    pub fn note_way_back(&mut self, is_right: bool) {
+        self.astray += u64::from(!is_right);
+    }
+
     pub fn merge(&mut self, other: &Coverage) {
         let mine = self.replies.iter_mut().flatten().flatten();
         let mine = mine.chain(self.turns.iter_mut().flatten().flatten());
@@ -206,6 +234,8 @@ impl Coverage {
         self.not_by_roots += other.not_by_roots;
         self.not_the_longest += other.not_the_longest;
         self.not_the_size += other.not_the_size;
+        self.other_set += other.other_set;
+        self.astray += other.astray;
     }
 
     /// Prints the tables and gives for each line whether it is as it must be.
@@ -225,6 +255,8 @@ impl Coverage {
                 self.not_the_size,
                 "counts from fresh that are not the set's size",
             ),
+            (self.other_set, "converted arenas with another set"),
+            (self.astray, "ways back that do not lead to the source"),
         ] {
             good.push(count == 0);
             if count != 0 {

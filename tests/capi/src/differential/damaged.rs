@@ -20,8 +20,8 @@ pub fn damage(rng: &mut Rng, words: &mut Vec<u16>) {
 
 /// Marks a node of the chain and breaks the chain there: its link leads to no node, its key is not
 /// above the one before, or the next key, if there is one, is not above its own.
-fn break_at_mark(rng: &mut Rng, words: &mut [u16]) {
-    let chain = Chain::of(words).expect("a good arena so far");
+pub fn break_at_mark(rng: &mut Rng, words: &mut [u16]) {
+    let chain = Chain::of(words).expect("a good header so far");
     if chain.nodes.is_empty() {
         return;
     }

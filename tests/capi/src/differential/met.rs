@@ -7,6 +7,7 @@ use model::arena::*;
 use model::run::{ENTRY_WORDS, MAX_SCHEDULE_WORDS};
 
 use super::comparer::Written;
+use super::met_conversions;
 use super::met_counts;
 use super::met_free_runs;
 use super::met_lengths;
@@ -249,6 +250,7 @@ impl Met {
         let all = ALL.into_iter().chain(met_lengths::ALL);
         let all = all.chain(met_rolls::ALL).chain(met_searches::ALL);
         let all = all.chain(met_free_runs::ALL).chain(met_counts::ALL);
+        let all = all.chain(met_conversions::all());
         all.map(line).collect()
     }
 }

@@ -19,6 +19,8 @@ pub enum EntryPoint {
     FindFree,
     LongestFreeRun,
     Stored,
+    ToLayout2,
+    ToLayout1,
     Run,
 }
 
@@ -44,6 +46,14 @@ pub enum Request {
         last_cell: u16,
     },
     Stored,
+    /// With what the target holds before.
+    ToLayout2 {
+        lengths: Vec<u16>,
+        target: Vec<u16>,
+    },
+    ToLayout1 {
+        target: Vec<u16>,
+    },
     /// With so many words for the history and for the waits.
     Run {
         workers: u16,
@@ -64,6 +74,8 @@ impl Request {
             Request::FindFree => EntryPoint::FindFree,
             Request::LongestFreeRun { .. } => EntryPoint::LongestFreeRun,
             Request::Stored => EntryPoint::Stored,
+            Request::ToLayout2 { .. } => EntryPoint::ToLayout2,
+            Request::ToLayout1 { .. } => EntryPoint::ToLayout1,
             Request::Run { .. } => EntryPoint::Run,
         }
     }
@@ -93,6 +105,14 @@ impl fmt::Display for Request {
                 write!(out, "longest_free_run up to cell {last_cell}")
             }
             Request::Stored => write!(out, "stored"),
+            Request::ToLayout2 { lengths, target } => {
+                let room = target.len();
+                write!(out, "to_layout_2 into {room} words, ")?;
+                write!(out, "{} lengths {lengths:?}", lengths.len())
+            }
+            Request::ToLayout1 { target } => {
+                write!(out, "to_layout_1 into {} words", target.len())
+            }
             Request::Run {
                 workers,
                 nodes,

@@ -1,6 +1,11 @@
 //! Libraries with one fault each. The comparison must tell every one of them from the model, or
 //! it would say nothing about the proved library either.
 
+use super::wrong_conversion_lengths;
+use super::wrong_conversion_orders;
+use super::wrong_conversion_refusals;
+use super::wrong_conversion_words;
+use super::wrong_conversions::{RIGHT_TO_1, RIGHT_TO_2};
 use super::wrong_counts::*;
 use super::wrong_free_replies::*;
 use super::wrong_free_runs::*;
@@ -306,6 +311,8 @@ const FAULTLESS: [Wrong; 2] = [
         snapshot: snapshot_walks,
         find_free: free_walks,
         longest_free_run: longest_passes,
+        to_layout_2: Some(RIGHT_TO_2),
+        to_layout_1: Some(RIGHT_TO_1),
         ..RIGHT
     },
 ];
@@ -322,7 +329,11 @@ pub fn check_all(seed: u64) -> Vec<bool> {
         .first_mismatch()
     };
     let mut good = Vec::new();
-    for library in &WRONG {
+    let converters = wrong_conversion_orders::all()
+        .chain(wrong_conversion_refusals::all())
+        .chain(wrong_conversion_words::all())
+        .chain(wrong_conversion_lengths::all());
+    for library in WRONG.iter().chain(converters) {
         let name = library.name;
         let told = first_mismatch(library);
         match told {

@@ -1,5 +1,6 @@
 //! A library that is the model but for one entry point.
 
+use super::wrong_conversions::Converter;
 use crate::library::{Library, Model, Run, Start};
 
 /// An arena, layout, workers and nodes.
@@ -15,6 +16,9 @@ pub struct Wrong {
     pub find_free: fn(&[u16]) -> u64,
     pub longest_free_run: fn(&[u16], u16) -> u64,
     pub stored: fn(&[u16]) -> u64,
+    /// None is the model's.
+    pub to_layout_2: Option<Converter>,
+    pub to_layout_1: Option<Converter>,
     pub run: fn(Run) -> u64,
 }
 
@@ -27,6 +31,8 @@ pub const RIGHT: Wrong = Wrong {
     find_free: |arena| Model.find_free(arena),
     longest_free_run: |arena, last_cell| Model.longest_free_run(arena, last_cell),
     stored: |arena| Model.stored(arena),
+    to_layout_2: None,
+    to_layout_1: None,
     run: |run| Model.run(run),
 };
 
@@ -86,6 +92,22 @@ pub const fn wrong_stored(name: &'static str, stored: fn(&[u16]) -> u64) -> Wron
     }
 }
 
+pub const fn wrong_to_2(name: &'static str, converter: Converter) -> Wrong {
+    Wrong {
+        name,
+        to_layout_2: Some(converter),
+        ..RIGHT
+    }
+}
+
+pub const fn wrong_to_1(name: &'static str, converter: Converter) -> Wrong {
+    Wrong {
+        name,
+        to_layout_1: Some(converter),
+        ..RIGHT
+    }
+}
+
 pub const fn wrong_run(name: &'static str, run: fn(Run) -> u64) -> Wrong {
     Wrong { name, run, ..RIGHT }
 }
@@ -117,6 +139,20 @@ impl Library for Wrong {
 
     fn stored(&self, arena: &[u16]) -> u64 {
         (self.stored)(arena)
+    }
+
+    fn to_layout_2(&self, source: &mut [u16], lengths: &mut [u16], target: &mut [u16]) -> u64 {
+        match &self.to_layout_2 {
+            Some(converter) => converter.convert(source, Some(lengths), target),
+            None => Model.to_layout_2(source, lengths, target),
+        }
+    }
+
+    fn to_layout_1(&self, source: &mut [u16], target: &mut [u16]) -> u64 {
+        match &self.to_layout_1 {
+            Some(converter) => converter.convert(source, None, target),
+            None => Model.to_layout_1(source, target),
+        }
     }
 
     fn run(&self, run: Run) -> u64 {
