@@ -10,10 +10,10 @@
 
 #include "lazy_list.h"
 
-enum { LAYOUT = 2, WORKERS = 2, NODES = 3, CALLS = 7, TURNS = 103, NODE_WORDS = 5, ENTRY_WORDS = 4, CALL_WORDS = 7, WAIT_WORDS = 4 };
+enum { WORKERS = 2, NODES = 3, CALLS = 7, TURNS = 103, NODE_WORDS = 5, ENTRY_WORDS = 4, CALL_WORDS = 7, WAIT_WORDS = 4 };
 enum { LAST_CELL = 12, PALLET_LENGTH = 10 };
 
-static uint16_t arena[LAZY_LIST_WORDS(LAYOUT, WORKERS, NODES)];
+static uint16_t arena[LAZY_LIST_WORDS(WORKERS, NODES)];
 static const size_t arena_length = sizeof arena / sizeof *arena;
 
 static const char *const operations[] = {"none", "add", "remove", "contains"};
@@ -163,7 +163,7 @@ static void run_schedule(void) {
 }
 
 int main(void) {
-    if (LAZY_LIST_REFUSAL(lazy_list_init(arena, arena_length, LAYOUT, WORKERS, NODES)) != 0)
+    if (LAZY_LIST_REFUSAL(lazy_list_init(arena, arena_length, WORKERS, NODES)) != 0)
         return 1;
     call(0, LAZY_LIST_ADD, 5, 3);
     call(0, LAZY_LIST_CONTAINS, 5, 0);

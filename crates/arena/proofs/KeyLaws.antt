@@ -9,9 +9,9 @@ use lib.ListN.{length, take, drop, set, replicate, length-set, length-map, lengt
 use lib.Seq.{sets, sets-eq, take_at}
 use borrow.Author.Tests.{lt-ltb, le-ltb}
 use Rattle.worker.specs.Refusals.{judged}
+use Rattle.worker.specs.declared.Node.{Node}
 use Rattle.worker.specs.declared.refusal.Refusal.{Refusal}
 use Rattle.worker.specs.declared.refusal.Refusal.TheVariants.{NoRoom}
-use Rattle.words.specs.Records.{key_at}
 use Rattle.words.specs.Replies.{accepted, refusing, replied}
 use Rattle.words.proofs.Judged.{refused_first, accepted_first}
 use Rattle.arena.specs.declared.keys.Keys.{Keys}
@@ -20,30 +20,30 @@ use Rattle.arena.specs.Snapshot.{chain_keys, chain_broken, chain_too_long, chain
 use Rattle.arena.specs.Keys.{listed}
 use Rattle.arena.proofs.ShortChains.{chain_few}
 
-module _ (width : ℕ) (nodes : List ℕ) (count : ℕ) where
+module _ (nodes : ℕ → Node) (count : ℕ) where
   -- where a row has room, the keys stand in it one behind the other, and are counted
   listed_all : (places row : List ℕ) (end : ℕ) → end + length places ≤ length row →
-      shown width nodes listed (record { row = row; count = end }) places
-      ≡ record { row = sets row end (keys_in (map (label_at width nodes) places)); count = end + length places }
+      shown nodes listed (record { row = row; count = end }) places
+      ≡ record { row = sets row end (keys_in (map (label_at nodes) places)); count = end + length places }
   listed_all [] row end room = rw add-zero
   listed_all (place ∷ places) row end room =
       let fits : end < length row = omega arith in
       rw (lt-ltb _ _ fits, add-suc)
-      (rw suc-add at (listed_all places (set row end (key_at width nodes place)) (suc end) (rw length-set (omega arith))))
+      (rw suc-add at (listed_all places (set row end (nodes place).key) (suc end) (rw length-set (omega arith))))
 
   abbrev keys : List ℕ
-  keys = chain_keys width nodes count
+  keys = chain_keys nodes count
 
   -- a row of 1,024 words holds the keys of every set
-  pub keys_listed : (all : Keys) → count ≤ 1024 → all ≡ shown width nodes listed (record { row = replicate 1024 0; count = 0 }) (set_nodes width nodes count) →
+  pub keys_listed : (all : Keys) → count ≤ 1024 → all ≡ shown nodes listed (record { row = replicate 1024 0; count = 0 }) (set_nodes nodes count) →
       (all.count ≡ length keys) × (length keys ≤ 1022) × (take all.count all.row ≡ keys)
   unfolding chain_keys chain_labels
   keys_listed all few told =
-      let places = set_nodes width nodes count in
+      let places = set_nodes nodes count in
       let row : List ℕ = replicate 1024 0 in
       let long : length row ≡ 1024 = length-replicate {A = ℕ} 1024 0 in
       let counted : length keys ≡ length places = rw (length-map, length-map) in
-      let short = chain_few width nodes count in
+      let short = chain_few nodes count in
       let here : all ≡ record { row = sets row 0 keys; count = 0 + length places } = told ∙ listed_all places row 0 (omega arith) in (
         rw here (omega arith),
         omega arith,
@@ -52,24 +52,24 @@ module _ (width : ℕ) (nodes : List ℕ) (count : ℕ) where
 
   module _ {A : Type 0} (room : ℕ) (refuse : Refusal → A) (accept : A) where
     -- a broken chain refuses whatever the room is
-    pub keys_broken : {refusal : Refusal} → refusing refusal ≡ replied (chain_broken width nodes count ∷ []) [] →
-        judged (chain_refusals width nodes count room) refuse accept ≡ refuse refusal
+    pub keys_broken : {refusal : Refusal} → refusing refusal ≡ replied (chain_broken nodes count ∷ []) [] →
+        judged (chain_refusals nodes count room) refuse accept ≡ refuse refusal
     unfolding chain_refusals
-    keys_broken = refused_first (chain_broken width nodes count ∷ []) (chain_too_long width nodes count room ∷ []) [] refuse accept
+    keys_broken = refused_first (chain_broken nodes count ∷ []) (chain_too_long nodes count room ∷ []) [] refuse accept
 
     -- and of a whole one the room decides
-    module _ (found : accepted [] ≡ replied (chain_broken width nodes count ∷ []) []) where
+    module _ (found : accepted [] ≡ replied (chain_broken nodes count ∷ []) []) where
       abbrev judge : Bool → A
       judge short = cond short (refuse NoRoom) accept
 
-      roomy : judged (chain_refusals width nodes count room) refuse accept ≡ judged (chain_too_long width nodes count room ∷ []) refuse accept
+      roomy : judged (chain_refusals nodes count room) refuse accept ≡ judged (chain_too_long nodes count room ∷ []) refuse accept
       unfolding chain_refusals
-      roomy = accepted_first (chain_broken width nodes count ∷ []) (chain_too_long width nodes count room ∷ []) [] refuse accept found
+      roomy = accepted_first (chain_broken nodes count ∷ []) (chain_too_long nodes count room ∷ []) [] refuse accept found
 
-      pub keys_fit : length keys ≤ room → judged (chain_refusals width nodes count room) refuse accept ≡ accept
+      pub keys_fit : length keys ≤ room → judged (chain_refusals nodes count room) refuse accept ≡ accept
       unfolding chain_too_long
       keys_fit h = roomy ∙ ap judge (le-ltb room (length keys) h)
 
-      pub keys_short : room < length keys → judged (chain_refusals width nodes count room) refuse accept ≡ refuse NoRoom
+      pub keys_short : room < length keys → judged (chain_refusals nodes count room) refuse accept ≡ refuse NoRoom
       unfolding chain_too_long
       keys_short h = roomy ∙ ap judge (lt-ltb room (length keys) h)

@@ -12,8 +12,8 @@ use native.Mathlib.Decide.{ℕ_discrete}
 use lib.Dec.{ltb, eqb}
 use borrow.Author.Tests.{eqb-true, eq-eqb, ne_eqb, ltb-true, lt-ltb}
 use Rattle.worker.specs.Node.{head, tail}
-use Rattle.words.specs.Layout.{layout_of, nodes_of, node_width, node_part}
-use Rattle.words.specs.Records.{key_at, next_at}
+use Rattle.worker.specs.declared.Node.{Node}
+use Rattle.words.specs.Layout.{nodes_of}
 use Rattle.arena.specs.Lists.{Pairs, alone, ◌ahead◌}
 use Rattle.arena.specs.declared.chain.Label.{Label}
 use Rattle.arena.specs.Sets.{Rising, member, keys_in, is_none, label_at, is_unmarked, walk, chain, chain_nodes, set_nodes, chain_labels, node_in, label_in, ChainWhole, set_of, OnChain, top, link, InSet}
@@ -110,10 +110,10 @@ pub or_empty : {Holds : List ℕ → Type 0} (found : Option (List ℕ)) → (is
 or_empty none empty holds = empty refl
 or_empty (some nodes) empty holds = holds nodes refl
 
-module _ (width : ℕ) (words : List ℕ) (count : ℕ) where
+module _ (read : ℕ → Node) (count : ℕ) where
   -- a walk that comes to an end passes such nodes
-  walk_walked : (steps last node : ℕ) (nodes : List ℕ) → walk width words count steps last node ≡ some nodes →
-      Walked count (key_at width words) (next_at width words) last node nodes
+  walk_walked : (steps last node : ℕ) (nodes : List ℕ) → walk read count steps last node ≡ some nodes →
+      Walked count (λ n. (read n).key) (λ n. (read n).next) last node nodes
   unfolding walk
   walk_walked zero last node nodes e = absurd (none-ne-some nodes e)
   walk_walked (suc steps) last node nodes e =
@@ -126,48 +126,53 @@ module _ (width : ℕ) (words : List ℕ) (count : ℕ) where
             let onward = mapped_some node _ (rw goes at found) in
             rw onward.2
             (passed q (ltb-true _ _ (and_elim_left (ltb node count) _ goes)) (ltb-true _ _ (and_elim_right (ltb node count) _ goes))
-            (walk_walked steps (key_at width words node) (next_at width words node) onward.0 onward.1)))
-            (dichotomy (ltb node count && ltb last (key_at width words node)))
+            (walk_walked steps (read node).key (read node).next onward.0 onward.1)))
+            (dichotomy (ltb node count && ltb last (read node).key))
       ]
 
-  pub chain_walked : (nodes : List ℕ) → chain width words count ≡ some nodes →
-      Walked count (key_at width words) (next_at width words) (key_at width words head) (next_at width words head) nodes
+  pub chain_walked : (nodes : List ℕ) → chain read count ≡ some nodes →
+      Walked count (λ n. (read n).key) (λ n. (read n).next) (read head).key (read head).next nodes
   unfolding chain
-  chain_walked = walk_walked 65536 (key_at width words head) (next_at width words head)
+  chain_walked = walk_walked 65536 (read head).key (read head).next
 
   -- a node of the set is one of the nodes
-  pub set_nodes_below : {node : ℕ} → Memᴰ node (set_nodes width words count) → node < count
+  pub set_nodes_below : {node : ℕ} → Memᴰ node (set_nodes read count) → node < count
   unfolding set_nodes chain_nodes
   set_nodes_below {node} m =
-      or_empty {Holds = λ found. Memᴰ node found → node < count} (chain width words count) (λ broken here. absurd (Memᴰ.not-nil here))
+      or_empty {Holds = λ found. Memᴰ node found → node < count} (chain read count) (λ broken here. absurd (Memᴰ.not-nil here))
       (λ nodes e here. walked_below (chain_walked nodes e) here)
-      (from_filter (is_unmarked width words) m).0
+      (from_filter (is_unmarked read) m).0
 
   -- the labels of the unmarked ones rise: the walk passes a node only where its key is above the last, and a broken chain has no nodes
-  labels_rise : Rising (chain_labels width words count)
+  labels_rise : Rising (chain_labels read count)
   unfolding chain_labels set_nodes chain_nodes
   labels_rise =
-      pairs_map (label_at width words)
-      (pairs_filter (is_unmarked width words) (or_empty (chain width words count) (λ broken. alone) (λ nodes e. walked_rises (chain_walked nodes e))))
+      pairs_map (label_at read)
+      (pairs_filter (is_unmarked read) (or_empty (chain read count) (λ broken. alone) (λ nodes e. walked_rises (chain_walked nodes e))))
 
   -- where the keys of the chain rise to Tail, steps up to the highest key are enough
-  module _ (rises : (n : ℕ) → OnChain (next_at width words) count n → n ≢ tail →
-      (next_at width words n < count) × (key_at width words n < key_at width words (next_at width words n)))
-      (small : (n : ℕ) → key_at width words n ≤ 65535) where
-    walk_whole : (steps : ℕ) {node : ℕ} → OnChain (next_at width words) count node → node ≢ tail →
-        65535 < key_at width words node + steps → is_none (walk width words count steps (key_at width words node) (next_at width words node)) ≡ false
+  module _ (rises : (n : ℕ) → OnChain (λ n. (read n).next) count n → n ≢ tail →
+      ((read n).next < count) × ((read n).key < (read (read n).next).key))
+      (small : (n : ℕ) → n < count → (read n).key ≤ 65535) where
+    walk_whole : (steps : ℕ) {node : ℕ} → OnChain (λ n. (read n).next) count node → node ≢ tail →
+        65535 < (read node).key + steps → is_none (walk read count steps (read node).key (read node).next) ≡ false
     unfolding walk
-    walk_whole zero {node} on h enough = absurd (omega (arith, small node))
+    walk_whole zero {node} on h enough = absurd (omega (arith, small node (chain_below on)))
     walk_whole (suc steps) {node} on h enough =
-        let following = next_at width words node in
+        let following = (read node).next in
         let step = rises node on h in
         elim (ℕ_discrete following tail) [
           | yes q ↦ rw (eq-eqb following tail q)
           | no q ↦
               rw (ne_eqb following tail q, lt-ltb _ _ step.0, lt-ltb _ _ step.1)
-              (mapped_none following (walk width words count steps (key_at width words following) (next_at width words following))
+              (mapped_none following (walk read count steps (read following).key (read following).next)
               (walk_whole steps (link on h step.0) q (omega arith)))
         ]
+
+    -- so the chain is whole: each node has a key above the last, and keys are words, so 65,536 steps are enough
+    pub chain_whole : head < count → is_none (chain read count) ≡ false
+    unfolding chain
+    chain_whole any = walk_whole 65536 (top any) (λ q. omega arith) (omega arith)
 
 -- a node's key and next, of an arena, and the nodes of its chain
 abbrev pub key_of : List ℕ → ℕ → ℕ
@@ -177,28 +182,19 @@ abbrev pub next_of : List ℕ → ℕ → ℕ
 next_of arena node = (node_in arena node).next
 
 abbrev pub chain_of : List ℕ → List ℕ
-chain_of arena = chain_nodes (node_width (layout_of arena)) (node_part arena) (nodes_of arena)
+chain_of arena = chain_nodes (node_in arena) (nodes_of arena)
 
 module _ (arena : List ℕ) where
-  -- a chain whose keys rise to Tail is whole: each node has a key above the last, and keys are words, so 65,536 steps are enough
-  pub chain_whole : head < nodes_of arena →
-      ((n : ℕ) → OnChain (λ m. (node_in arena m).next) (nodes_of arena) n → n ≢ tail →
-      ((node_in arena n).next < nodes_of arena) × ((node_in arena n).key < (node_in arena (node_in arena n).next).key)) →
-      ((n : ℕ) → (node_in arena n).key ≤ 65535) → ChainWhole arena
-  unfolding chain
-  chain_whole any rises small =
-      walk_whole (node_width (layout_of arena)) (node_part arena) (nodes_of arena) rises small 65536 (top any) (λ q. omega arith) (omega arith)
-
   pub whole_walked : ChainWhole arena → Walked (nodes_of arena) (key_of arena) (next_of arena) (key_of arena head) (next_of arena head) (chain_of arena)
   unfolding chain_nodes
   whole_walked whole =
       or_empty _ (λ broken. absurd (true≢false (sym broken ∙ whole)))
-      (chain_walked (node_width (layout_of arena)) (node_part arena) (nodes_of arena))
+      (chain_walked (node_in arena) (nodes_of arena))
 
   -- the keys of the set rise
   pub set_rises : Rising (set_of arena)
   unfolding set_of
-  set_rises = labels_rise (node_width (layout_of arena)) (node_part arena) (nodes_of arena)
+  set_rises = labels_rise (node_in arena) (nodes_of arena)
 
   -- and where the chain is whole, its labels are those of document 01's words
   pub set_members : ChainWhole arena → (label : Label) → Memᴰ label (set_of arena) ↔ InSet arena label
@@ -208,7 +204,7 @@ module _ (arena : List ℕ) where
       forth : Memᴰ label (set_of arena) → InSet arena label
       forth m =
           let found = Memᴰ.of_map (label_in arena) _ m in
-          let passed = from_filter (is_unmarked (node_width (layout_of arena)) (node_part arena)) found.1 in
+          let passed = from_filter (is_unmarked (node_in arena)) found.1 in
           let on = walked_on (λ low. link (top (omega arith)) (λ q. omega arith) low) (whole_walked whole) passed.0 in
           let above = walked_above (whole_walked whole) passed.0 in
           record {
@@ -223,4 +219,4 @@ module _ (arena : List ℕ) where
       back : InSet arena label → Memᴰ label (set_of arena)
       back s =
           let on = on_walked (whole_walked whole) s.on_chain s.not_head s.not_tail in
-          Memᴰ.cast (sym s.has_label) (Memᴰ.map (label_in arena) (in_filter (is_unmarked (node_width (layout_of arena)) (node_part arena)) on (eq-eqb _ _ s.unmarked)))
+          Memᴰ.cast (sym s.has_label) (Memᴰ.map (label_in arena) (in_filter (is_unmarked (node_in arena)) on (eq-eqb _ _ s.unmarked)))

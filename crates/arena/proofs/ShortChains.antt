@@ -13,9 +13,9 @@ use borrow.Author.Tests.{eq-eqb, ne_eqb}
 use Rattle.std.specs.List.{filter}
 use Rattle.std.proofs.lemmas.List.Sums.{length-filter, count_by-le-length}
 use Rattle.worker.specs.Node.{head}
-use Rattle.words.specs.Layout.{layout_of, nodes_of, node_width, node_part}
-use Rattle.words.specs.Records.{key_at}
-use Rattle.arena.specs.Sets.{is_unmarked, chain_nodes, set_nodes, chain_labels, set_of, OnChain, top, link}
+use Rattle.worker.specs.declared.Node.{Node}
+use Rattle.words.specs.Layout.{nodes_of}
+use Rattle.arena.specs.Sets.{is_unmarked, chain_nodes, set_nodes, chain_labels, node_in, set_of, OnChain, top, link}
 use Rattle.arena.specs.Snapshot.{chain_keys, keys_of}
 use Rattle.arena.proofs.SetLaws.{Walked, ended, passed, walked_on, or_empty, chain_walked, key_of, next_of}
 
@@ -86,24 +86,24 @@ module _ (key : ℕ → ℕ) (off : ℕ) where
       let head_low : without head ≤ last = rw (ne_eqb head off (omega arith)) low in
       omega (arith, walked_few without head_low (walked_without out walked), above_without last (count - 2) from (omega arith))
 
-module _ (width : ℕ) (nodes : List ℕ) (count : ℕ) where
-  nodes_few : length (chain_nodes width nodes count) ≤ count - 2
+module _ (nodes : ℕ → Node) (count : ℕ) where
+  nodes_few : length (chain_nodes nodes count) ≤ count - 2
   unfolding chain_nodes
   nodes_few =
       or_empty {Holds = λ found. length found ≤ count - 2} _ (λ broken. zero-le)
       (λ found e.
       omega (
         arith,
-        walked_few (key_at width nodes) (omega arith) (chain_walked width nodes count found e),
-        above_few (key_at width nodes) (key_at width nodes head) (count - 2),
+        walked_few (λ n. (nodes n).key) (omega arith) (chain_walked nodes count found e),
+        above_few (λ n. (nodes n).key) (nodes head).key (count - 2),
       ))
 
   -- so the nodes of a set are few, and their keys
-  pub set_few : length (set_nodes width nodes count) ≤ count - 2
+  pub set_few : length (set_nodes nodes count) ≤ count - 2
   unfolding set_nodes
-  set_few = omega (arith, nodes_few, length-filter (is_unmarked width nodes) (chain_nodes width nodes count), count_by-le-length (is_unmarked width nodes) (chain_nodes width nodes count))
+  set_few = omega (arith, nodes_few, length-filter (is_unmarked nodes) (chain_nodes nodes count), count_by-le-length (is_unmarked nodes) (chain_nodes nodes count))
 
-  pub chain_few : length (chain_keys width nodes count) ≤ count - 2
+  pub chain_few : length (chain_keys nodes count) ≤ count - 2
   unfolding chain_keys chain_labels
   chain_few = rw (length-map, length-map) set_few
 
@@ -112,11 +112,11 @@ pub set_fewer : (arena : List ℕ) (off : ℕ) → 2 ≤ off → off < nodes_of 
     length (set_of arena) < nodes_of arena - 2
 unfolding set_of chain_labels set_nodes chain_nodes
 set_fewer arena off from to out =
-    let unmarked = is_unmarked (node_width (layout_of arena)) (node_part arena) in
+    let unmarked = is_unmarked (node_in arena) in
     rw length-map
     (or_empty {Holds = λ found. length (filter unmarked found) < nodes_of arena - 2} _ (λ broken. omega arith)
     (λ found e.
-    let walked = chain_walked (node_width (layout_of arena)) (node_part arena) (nodes_of arena) found e in
+    let walked = chain_walked (node_in arena) (nodes_of arena) found e in
     omega (
       arith,
       length-filter unmarked found,
@@ -127,4 +127,4 @@ set_fewer arena off from to out =
 -- so has an arena's set
 pub keys_few : (arena : List ℕ) → length (keys_of arena) ≤ nodes_of arena - 2
 unfolding keys_of set_of chain_keys
-keys_few arena = chain_few (node_width (layout_of arena)) (node_part arena) (nodes_of arena)
+keys_few arena = chain_few (node_in arena) (nodes_of arena)

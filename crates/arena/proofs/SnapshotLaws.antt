@@ -7,10 +7,10 @@ use lib.ListN.{length}
 use Rattle.worker.specs.Refusals.{judged}
 use Rattle.worker.specs.declared.refusal.Refusal.{Refusal}
 use Rattle.worker.proofs.RefusalLaws.{NoneHolds, judged_append, none_accepts}
-use Rattle.words.specs.Layout.{layout_of, nodes_of, node_width, node_part}
+use Rattle.words.specs.Layout.{nodes_of}
 use Rattle.words.specs.Replies.{accepted, refusing}
 use Rattle.words.specs.Header.{header_refusals}
-use Rattle.arena.specs.Sets.{ChainWhole, set_of}
+use Rattle.arena.specs.Sets.{node_in, ChainWhole, set_of}
 use Rattle.arena.specs.Snapshot.{chain_keys, chain_broken, chain_too_long, chain_refusals, keys_of, snapshot_refusals, snapshot_answer, snapshot_words, Listed}
 
 module _ (arena : List ℕ) (header : NoneHolds (header_refusals arena)) (whole : ChainWhole arena) where
@@ -19,7 +19,7 @@ module _ (arena : List ℕ) (header : NoneHolds (header_refusals arena)) (whole 
       judged (snapshot_refusals arena room) refuse accept ≡ accept
   unfolding snapshot_refusals chain_refusals chain_broken chain_too_long keys_of set_of chain_keys
   accepts room refuse accept enough =
-      let chain = chain_refusals (node_width (layout_of arena)) (node_part arena) (nodes_of arena) room in
+      let chain = chain_refusals (node_in arena) (nodes_of arena) room in
       judged_append (header_refusals arena) chain refuse accept
       ∙ none_accepts (header_refusals arena) refuse _ header
       ∙ none_accepts chain refuse accept (whole, (le-ltb room (length (keys_of arena)) enough, tt))

@@ -6,8 +6,8 @@ use Rattle.std.proofs.Math.Option
 use Rattle.std.proofs.Math.Option.{Option, none, some, get_or}
 use Rattle.worker.specs.Node.{head, tail}
 use Rattle.worker.specs.declared.Node.{Node}
-use Rattle.words.specs.Layout.{layout_of, nodes_of, node_width, node_part}
-use Rattle.words.specs.Records.{node_at, key_at, next_at}
+use Rattle.words.specs.Layout.{nodes_of, node_part}
+use Rattle.words.specs.Records.{node_at}
 use Rattle.arena.specs.declared.chain.Label.{Label}
 use Rattle.arena.specs.Lists.{Pairs}
 
@@ -28,34 +28,34 @@ abbrev pub is_none : {A : Type 0} → Option A → Bool
 is_none none = true
 is_none (some a) = false
 
--- in node records of some width
-module _ (width : ℕ) (nodes : List ℕ) where
+-- of nodes by their number
+module _ (nodes : ℕ → Node) where
   -- the label that a node holds, and whether it is not marked
   abbrev pub label_at : ℕ → Label
-  label_at node = record { key = (node_at width nodes node).key; length = (node_at width nodes node).length }
+  label_at node = record { key = (nodes node).key; length = (nodes node).length }
 
   abbrev pub is_unmarked : ℕ → Bool
-  is_unmarked node = eqb (node_at width nodes node).mark 0
+  is_unmarked node = eqb (nodes node).mark 0
 
   -- what becomes of a visitor that is shown some nodes, each with its label
   abbrev pub shown : {A : Type 0} → (A → ℕ → Label → A) → A → List ℕ → A
   shown visited = fold (λ visitor node. visited visitor node (label_at node))
 
-  -- and with so many of them
+  -- and of the first so many
   module _ (count : ℕ) where
     -- The nodes from `node` on, up to Tail, which is not looked at; or none, where a link is N or more or a key is not above the last.
     -- Keys rise and are words, so 65,536 steps are enough for every walk (`Walks.chain_steps`).
     unfoldable pub walk : ℕ → ℕ → ℕ → Option (List ℕ)
     walk zero last node = none
     walk (suc steps) last node =
-        let onward = walk steps (key_at width nodes node) (next_at width nodes node) in
+        let onward = walk steps (nodes node).key (nodes node).next in
         cond (eqb node tail)
         (some [])
-        (cond (ltb node count && ltb last (key_at width nodes node)) (Option.map (λ rest. node ∷ rest) onward) none)
+        (cond (ltb node count && ltb last (nodes node).key) (Option.map (λ rest. node ∷ rest) onward) none)
 
     -- the nodes of the chain between Head and Tail, marked or not; Head's key is where the rising begins
     unfoldable pub chain : Option (List ℕ)
-    chain = walk 65536 (key_at width nodes head) (next_at width nodes head)
+    chain = walk 65536 (nodes head).key (nodes head).next
 
     -- of a broken chain none
     unfoldable pub chain_nodes : List ℕ
@@ -70,26 +70,22 @@ module _ (width : ℕ) (nodes : List ℕ) where
 
 -- a node of an arena
 abbrev pub node_in : List ℕ → ℕ → Node
-node_in arena = node_at (node_width (layout_of arena)) (node_part arena)
+node_in arena = node_at (node_part arena)
 
 abbrev pub label_in : List ℕ → ℕ → Label
-label_in arena = label_at (node_width (layout_of arena)) (node_part arena)
+label_in arena = label_at (node_in arena)
 
 -- the walk from Head
 abbrev pub walk_of : List ℕ → Option (List ℕ)
-walk_of arena = chain (node_width (layout_of arena)) (node_part arena) (nodes_of arena)
+walk_of arena = chain (node_in arena) (nodes_of arena)
 
 -- the chain is whole: the walk comes to Tail, by links below N and with rising keys
 abbrev pub ChainWhole : List ℕ → Type 0
 ChainWhole arena = is_none (walk_of arena) ≡ false
 
--- the nodes of the set, in chain order
-abbrev pub nodes_of_set : List ℕ → List ℕ
-nodes_of_set arena = set_nodes (node_width (layout_of arena)) (node_part arena) (nodes_of arena)
-
 -- the set: a rising list (`SetLaws.set_rises`), with just the labels of document 01's words, below (`SetLaws.set_members`)
 unfoldable pub set_of : List ℕ → List Label
-set_of arena = chain_labels (node_width (layout_of arena)) (node_part arena) (nodes_of arena)
+set_of arena = chain_labels (node_in arena) (nodes_of arena)
 
 -- document 01's words: the chain is Head and what next links reach from it, up to node 1 and no further; a number of N or more is no node
 pub data OnChain (next : ℕ → ℕ) (count : ℕ) : ℕ → Type 0 where

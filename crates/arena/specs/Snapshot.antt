@@ -2,23 +2,24 @@
 use Rattle.std.specs.Prelude.{ℕ, ◌≡◌, List, [], ◌∷◌, ◌++◌, length, drop, ltb}
 use Rattle.worker.specs.Refusals.{Test}
 use Rattle.worker.specs.declared.refusal.Refusal.TheVariants.{BrokenChain, NoRoom}
-use Rattle.words.specs.Layout.{nodes_of, layout_of, node_width, node_part}
+use Rattle.worker.specs.declared.Node.{Node}
+use Rattle.words.specs.Layout.{nodes_of}
 use Rattle.words.specs.Replies.{Reply, accepted, replied, written}
 use Rattle.words.specs.Header.{header_refusals}
-use Rattle.arena.specs.Sets.{keys_in, is_none, chain, chain_labels, set_of}
+use Rattle.arena.specs.Sets.{keys_in, is_none, chain, chain_labels, node_in, set_of}
 
 -- what a snapshot gives: the count of the keys
 abbrev pub count_values : ℕ → List ℕ
 count_values count = count ∷ []
 
-module _ (width : ℕ) (nodes : List ℕ) (count : ℕ) where
+module _ (nodes : ℕ → Node) (count : ℕ) where
   -- the keys of the set
   unfoldable pub chain_keys : List ℕ
-  chain_keys = keys_in (chain_labels width nodes count)
+  chain_keys = keys_in (chain_labels nodes count)
 
   -- a broken chain, at a marked node as at any other: 7
   unfoldable pub chain_broken : Test
-  chain_broken = (is_none (chain width nodes count), BrokenChain)
+  chain_broken = (is_none (chain nodes count), BrokenChain)
 
   -- more keys than room: 8
   unfoldable pub chain_too_long : ℕ → Test
@@ -32,10 +33,10 @@ module _ (width : ℕ) (nodes : List ℕ) (count : ℕ) where
 unfoldable pub keys_of : List ℕ → List ℕ
 keys_of arena = keys_in (set_of arena)
 
--- order: 1, 2, 7, 8
+-- order: 1, 2, 12, 7, 8
 unfoldable pub snapshot_refusals : List ℕ → ℕ → List Test
 snapshot_refusals arena room =
-    header_refusals arena ++ chain_refusals (node_width (layout_of arena)) (node_part arena) (nodes_of arena) room
+    header_refusals arena ++ chain_refusals (node_in arena) (nodes_of arena) room
 
 -- the count of the keys
 unfoldable pub snapshot_answer : List ℕ → ℕ → Reply

@@ -3,7 +3,7 @@ use Rattle.std.specs.Prelude.{ℕ, List, [], ◌∷◌, ◌++◌, not, leb, ltb,
 use Rattle.worker.specs.Worker.{is_call, idle_stage, last_stage, started_worker}
 use Rattle.worker.specs.Refusals.{Test}
 use Rattle.worker.specs.declared.refusal.Refusal.TheVariants.{NoSuchWorker, BrokenRecord, Busy, BadCall}
-use Rattle.words.specs.Layout.{node_width, has_length, layout_of, workers_of}
+use Rattle.words.specs.Layout.{workers_of}
 use Rattle.words.specs.Records.{worker_at, with_worker}
 use Rattle.words.specs.Replies.{Reply, replied, written}
 use Rattle.words.specs.Header.{header_refusals}
@@ -14,10 +14,10 @@ call_refusals arena worker operation key length =
     (leb (workers_of arena) worker, NoSuchWorker)
     ∷ (ltb last_stage (worker_at arena worker).stage, BrokenRecord)
     ∷ (not (eqb (worker_at arena worker).stage idle_stage), Busy)
-    ∷ (not (is_call (has_length (node_width (layout_of arena))) operation key length), BadCall)
+    ∷ (not (is_call operation key length), BadCall)
     ∷ []
 
--- order: 1, 2, 3, 6, 4, 5
+-- order: 1, 2, 12, 3, 6, 4, 5
 unfoldable pub start_refusals : List ℕ → ℕ → ℕ → ℕ → ℕ → List Test
 start_refusals arena worker operation key length = header_refusals arena ++ call_refusals arena worker operation key length
 

@@ -1,5 +1,6 @@
 // The chain from Head to Tail, and the labels of its unmarked nodes, one after another.
 ghost use Rattle.std.specs.Prelude.{◌≡◌, [], ◌∷◌, IfOk};
+ghost use Rattle.words.specs.Records.{node_at};
 ghost use Rattle.words.specs.Replies.{no_values, reply, replied};
 ghost use Rattle.arena.specs.Sets.{shown, set_nodes};
 ghost use Rattle.arena.specs.Snapshot.{chain_broken};
@@ -7,7 +8,7 @@ ghost use Rattle.arena.specs.Snapshot.{chain_broken};
 use words::Nodes;
 use worker::{Node, Refusal};
 
-// A label of a set: its key, and its length, which is 0 where nodes have none.
+// A label of a set.
 #[derive(Clone, Copy, Debug, PartialEq, Eq, Hash)]
 pub struct Label {
     pub key: u16,
@@ -25,20 +26,52 @@ pub trait Visitor {
         ensures { self.new ≡ visited self.old node label };
 }
 
+// What the walk reads: nodes by their number, so many of which there are. An arena's, or those of a converter's source.
+pub trait NodeRecords: Copy {
+    ghost use Rattle.std.specs.Prelude.{ℕ};
+    ghost use Rattle.worker.specs.declared.Node.{Node};
+    ghost use Rattle.words.specs.Records.{node_found};
+
+    ghost nodes: { Self → ℕ → Node };
+
+    ghost count: { Self → ℕ };
+
+    // A node. One that there is not is read as zeros.
+    fn get(self, node: u16) -> Node
+        ensures { result ≡ nodes self node };
+
+    // A node, if there is one of that number.
+    fn find(self, node: u16) -> Option<Node>
+        ensures { result ≡ node_found (nodes self) (count self) node };
+}
+
+impl<'a> NodeRecords for Nodes<'a> {
+    ghost nodes = { λ nodes. node_at nodes.words.now };
+
+    ghost count = { λ nodes. nodes.count };
+
+    fn get(self, node: u16) -> Node {
+        Nodes::get(self, node)
+    }
+
+    fn find(self, node: u16) -> Option<Node> {
+        Nodes::find(self, node)
+    }
+}
+
 // Walks from Head to Tail and shows the labels of the unmarked nodes between, which is the set. A marked node is passed over, but its link and
 // its key are tested like the others'. Of a broken chain some labels may have been shown.
-pub fn visit_labels<V: Visitor>(nodes: Nodes, visitor: &mut V) -> Result<(), Refusal>
-    ensures answer { reply no_values result ≡ replied
-        (chain_broken nodes.entry.width nodes.entry.words.now nodes.entry.count ∷ []) [] }
-    ensures visitor { IfOk result (λ done. visitor.new ≡ shown nodes.entry.width nodes.entry.words.now V.visited visitor.old
-        (set_nodes nodes.entry.width nodes.entry.words.now nodes.entry.count)) }
+pub fn visit_labels<R: NodeRecords, V: Visitor>(records: R, visitor: &mut V) -> Result<(), Refusal>
+    ensures answer { reply no_values result ≡ replied (chain_broken (R.nodes records) (R.count records) ∷ []) [] }
+    ensures visitor { IfOk result (λ done.
+        visitor.new ≡ shown (R.nodes records) V.visited visitor.old (set_nodes (R.nodes records) (R.count records))) }
 {
-    let head = nodes.get(Node::HEAD);
+    let head = records.get(Node::HEAD);
     let mut last = head.key;
     let mut at = head.next;
     // The links say where it goes on, so no range or slice can be gone through.
     while at != Node::TAIL {
-        let node = match nodes.find(at) {
+        let node = match records.find(at) {
             Some(node) if last < node.key => node,
             _ => return Err(Refusal::BrokenChain),
         };

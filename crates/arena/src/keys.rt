@@ -1,5 +1,6 @@
 // The keys of a set, for a snapshot.
 ghost use Rattle.std.specs.Prelude.{◌≡◌, ◌++◌, length, drop};
+ghost use Rattle.words.specs.Records.{node_at};
 ghost use Rattle.words.specs.Replies.{reply, replied, written};
 ghost use Rattle.arena.specs.Keys.{listed};
 ghost use Rattle.arena.specs.Snapshot.{count_values, chain_keys, chain_refusals};
@@ -30,13 +31,13 @@ impl Visitor for Keys {
 // The keys of the set.
 pub(crate) fn write_keys(nodes: Nodes, keys: &mut [u16]) -> Result<u16, Refusal>
     ensures answer { reply count_values result ≡ replied
-        (chain_refusals nodes.entry.width nodes.entry.words.now nodes.entry.count (length keys.old))
-        (count_values (length (chain_keys nodes.entry.width nodes.entry.words.now nodes.entry.count))) }
+        (chain_refusals (node_at nodes.entry.words.now) nodes.entry.count (length keys.old))
+        (count_values (length (chain_keys (node_at nodes.entry.words.now) nodes.entry.count))) }
     ensures words { keys.new ≡ written
-        (chain_refusals nodes.entry.width nodes.entry.words.now nodes.entry.count (length keys.old))
+        (chain_refusals (node_at nodes.entry.words.now) nodes.entry.count (length keys.old))
         keys.old
-        (chain_keys nodes.entry.width nodes.entry.words.now nodes.entry.count
-        ++ drop (length (chain_keys nodes.entry.width nodes.entry.words.now nodes.entry.count)) keys.old) }
+        (chain_keys (node_at nodes.entry.words.now) nodes.entry.count
+        ++ drop (length (chain_keys (node_at nodes.entry.words.now) nodes.entry.count)) keys.old) }
 {
     // A refusal writes nothing, so the keys wait in a row. There are no more keys than nodes.
     let mut found = Keys {

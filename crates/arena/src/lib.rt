@@ -6,30 +6,30 @@ ghost use Rattle.words.specs.Replies.{no_values, reply, replied};
 ghost use Rattle.arena.specs.Init.{init_answer, init_arena};
 ghost use Rattle.arena.specs.Start.{call_refusals, start_refusals, start_answer, start_arena};
 ghost use Rattle.arena.specs.Snapshot.{count_values, snapshot_answer, snapshot_words};
-ghost use Rattle.arena.specs.Stored.{stored_values, stored_answer};
+ghost use Rattle.arena.specs.Stored.{stored_answer};
 
-use words::{Arena, layout, records};
+use words::{Arena, records};
 use worker::{Refusal, Worker};
 
 mod chain;
 mod fresh;
 mod keys;
 
-pub use chain::{Label, Visitor, visit_labels};
+pub use chain::{Label, NodeRecords, Visitor, visit_labels};
 
-// Lays a fresh arena of a layout (document 01: lay). Words past its total stay.
+// Lays a fresh arena (document 01: lay). Words past its total stay.
 #[tactic(auto, unfolding(crate::specs::Init::init_answer, crate::specs::Init::init_arena))]
-pub fn init(arena: &mut [u16], layout: u16, workers: u16, nodes: u16) -> Result<(), Refusal>
-    ensures answer { reply no_values result ≡ init_answer arena.old layout workers nodes }
-    ensures words { arena.new ≡ init_arena arena.old layout workers nodes }
+pub fn init(arena: &mut [u16], workers: u16, nodes: u16) -> Result<(), Refusal>
+    ensures answer { reply no_values result ≡ init_answer arena.old workers nodes }
+    ensures words { arena.new ≡ init_arena arena.old workers nodes }
 {
-    let counts = fresh::init_verdict(arena, layout, workers, nodes)?;
+    let counts = fresh::init_verdict(arena, workers, nodes)?;
     fresh::write_fresh(arena, counts);
     Ok(())
 }
 
-// Starts a call on a worker; an add on an arena of layout 2 carries the length of its label, every other call 0. By document 01's numbers, any
-// of which may be asked for.
+// Starts a call on a worker; an add carries the length of its label, every other call 0. By document 01's numbers, any of which may be asked
+// for.
 #[tactic(auto, unfolding(crate::specs::Start::start_answer, crate::specs::Start::start_arena))]
 pub fn start(
     arena: &mut [u16],
@@ -79,8 +79,7 @@ fn call_verdict(
     if stage != Worker::IDLE_STAGE {
         return Err(Refusal::Busy);
     }
-    let lengths = layout::has_length(arena.nodes().width);
-    if !worker::is_call(lengths, operation, key, length) {
+    if !worker::is_call(operation, key, length) {
         return Err(Refusal::BadCall);
     }
     Ok(())
@@ -94,10 +93,10 @@ pub fn snapshot(arena: &[u16], keys: &mut [u16]) -> Result<u16, Refusal>
     keys::write_keys(Arena::new(arena)?.nodes(), keys)
 }
 
-// How many labels are stored, by the header's count (document 02, A6): the chain is not walked. None where the header has no count.
+// How many labels are stored, by the header's count (document 02, A6): the chain is not walked.
 #[tactic(auto, unfolding(crate::specs::Stored::stored_answer), using(words::proofs::Judged::still_refused, words::proofs::Judged::still_accepted))]
-pub fn stored(arena: &[u16]) -> Result<Option<u16>, Refusal>
-    ensures { reply stored_values result ≡ stored_answer arena.now }
+pub fn stored(arena: &[u16]) -> Result<u16, Refusal>
+    ensures { reply count_values result ≡ stored_answer arena.now }
 {
     Ok(Arena::new(arena)?.stored())
 }

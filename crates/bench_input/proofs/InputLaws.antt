@@ -7,7 +7,7 @@ use Rattle.std.proofs.lemmas.Grind.{replicate_next}
 use Rattle.std.proofs.lemmas.List.{length-replicate}
 use Rattle.std.proofs.lemmas.List.Edits.{sets}
 use Rattle.std.proofs.lemmas.Option.{none-some, cond_some}
-use Rattle.words.specs.Layout.{layout2, good_counts}
+use Rattle.words.specs.Layout.{good_counts}
 use Rattle.words.specs.Flat.{flat_words, with_record}
 use Rattle.words.specs.declared.entry.Entry.{Entry}
 use Rattle.words.specs.Entries.{entry_width, entry_words, entry_laws, most_entries}
@@ -160,7 +160,7 @@ module _ (input : List ℕ) (few : length input ≤ most_bytes) where
       go (Some (Entries entry count)) t = refl
 
   pub good_counts_lem : (first others : List ℕ) (workers nodes : ℕ) → parts line_feed input ≡ first ∷ parts line_feed others →
-      line_of first ≡ Some (Board workers nodes) → good_counts layout2 workers nodes ≡ true → reading_of input ≡ all_lines workers nodes others
+      line_of first ≡ Some (Board workers nodes) → good_counts workers nodes ≡ true → reading_of input ≡ all_lines workers nodes others
   unfolding good_board
   good_counts_lem first others workers nodes cut board good = first_line first others cut ∙ rw (board, good)
 

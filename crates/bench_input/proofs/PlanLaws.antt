@@ -2,7 +2,7 @@
 use Rattle.std.proofs.Common.{◌≡◌, ℕ, suc, ◌*◌, ◌≤◌, List, [], ◌∷◌, ◌++◌, Bool, true, false, cond, ltb, Option, Some, None, length, take, length-append, zero-add, refl, subst, arith}
 use Rattle.std.specs.Option.{option_and_then, option_map_or}
 use Rattle.std.proofs.Math.Seq.{sets-eq, take_at}
-use Rattle.words.specs.Layout.{layout2, good_counts}
+use Rattle.words.specs.Layout.{good_counts}
 use Rattle.words.specs.Flat.{flat_words}
 use Rattle.words.specs.declared.entry.Entry.{Entry}
 use Rattle.words.specs.Entries.{entry_width, entry_words, entry_laws, most_entries}
@@ -17,13 +17,13 @@ use Rattle.bench_input.proofs.InputLaws.{new_fit}
 
 -- good counts, and not too many entries
 abbrev pub Sound : Reading → Type 0
-Sound (planned workers nodes entries) = (good_counts layout2 workers nodes ≡ true) × (length entries ≤ most_entries)
+Sound (planned workers nodes entries) = (good_counts workers nodes ≡ true) × (length entries ≤ most_entries)
 Sound (bad_line line entries) = Unit
 
 few_more : (entries new : List Entry) (text : List ℕ) → text_entries (length entries) text ≡ Some new → length (entries ++ new) ≤ most_entries
 few_more entries new text e = rw length-append (new_fit (length entries) (line_of text) new e)
 
-sound_lines : (workers nodes : ℕ) → good_counts layout2 workers nodes ≡ true → (line : ℕ) (entries : List Entry) (texts : List (List ℕ)) → length entries ≤ most_entries →
+sound_lines : (workers nodes : ℕ) → good_counts workers nodes ≡ true → (line : ℕ) (entries : List Entry) (texts : List (List ℕ)) → length entries ≤ most_entries →
     Sound (lines_from workers nodes line entries texts)
 unfolding lines_from
 sound_lines workers nodes g line entries [] f = tt
@@ -45,14 +45,14 @@ sound : (input : List ℕ) → Sound (reading_of input)
 unfolding reading_of good_board
 sound input = go (ltb most_bytes (length input)) (parts line_feed input)
   where
-    counted : (workers nodes : ℕ) (others : List (List ℕ)) (t : Bool) → good_counts layout2 workers nodes ≡ t →
+    counted : (workers nodes : ℕ) (others : List (List ℕ)) (t : Bool) → good_counts workers nodes ≡ t →
         Sound (option_map_or (λ (counts : ℕ × ℕ). lines_from counts.0 counts.1 2 [] others) (cond t (Some (workers, nodes)) None) (bad_line 1 []))
     counted workers nodes others true g = sound_lines workers nodes g 2 [] others (omega arith)
     counted workers nodes others false g = tt
 
     first : (line : Option Line) (others : List (List ℕ)) →
         Sound (option_map_or (λ (counts : ℕ × ℕ). lines_from counts.0 counts.1 2 [] others) (option_and_then good_board line) (bad_line 1 []))
-    first (Some (Board workers nodes)) others = counted workers nodes others (good_counts layout2 workers nodes) refl
+    first (Some (Board workers nodes)) others = counted workers nodes others (good_counts workers nodes) refl
     first (Some (Entries entry count)) others = tt
     first None others = tt
 
@@ -64,7 +64,7 @@ sound input = go (ltb most_bytes (length input)) (parts line_feed input)
 
 -- of a planned input: the counts are good, and the words of its schedule are those of its entries
 module _ (input : List ℕ) (workers nodes : ℕ) (entries : List Entry) (plan : reading_of input ≡ planned workers nodes entries) where
-  pub planned_sound : (good_counts layout2 workers nodes ≡ true) × (length entries ≤ most_entries)
+  pub planned_sound : (good_counts workers nodes ≡ true) × (length entries ≤ most_entries)
   planned_sound = subst (λ (o : Reading). Sound o) plan (sound input)
 
   pub planned_words : (schedule : List ℕ) → entry_width * most_entries ≤ length schedule →

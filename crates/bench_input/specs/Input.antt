@@ -2,7 +2,7 @@
 use Rattle.std.specs.Prelude.{ℕ, suc, ◌+◌, cond, length, replicate, leb, ltb, List, [], ◌∷◌, ◌++◌, Option, Some, None, Result, Ok, Err, option_and_then}
 use Rattle.std.specs.Option.{option_map_or}
 use Rattle.std.proofs.lemmas.List.Edits.{sets}
-use Rattle.words.specs.Layout.{layout2, good_counts}
+use Rattle.words.specs.Layout.{good_counts}
 use Rattle.words.specs.Flat.{flat_words}
 use Rattle.words.specs.declared.entry.Entry.{Entry}
 use Rattle.words.specs.Entries.{entry_words, most_entries}
@@ -45,9 +45,9 @@ module _ (workers nodes : ℕ) where
       (text_entries (length entries) text)
       (bad_line line entries)
 
--- W and N of `board W N`, if they are good: a run lays layout 2 (document 02, A2)
+-- W and N of `board W N`, if they are good
 unfoldable pub good_board : Line → Option (ℕ × ℕ)
-good_board (Board workers nodes) = cond (good_counts layout2 workers nodes) (Some (workers, nodes)) None
+good_board (Board workers nodes) = cond (good_counts workers nodes) (Some (workers, nodes)) None
 good_board (Entries entry count) = None
 
 abbrev pub counts_of : List ℕ → Option (ℕ × ℕ)

@@ -9,7 +9,7 @@ ghost use Rattle.bench_input.specs.Input.{most_bytes, text_entries, counts_of, l
 use crate::bytes::{LINE_FEED, split_once};
 use crate::lines::{Line, MOST_ENTRIES, line_of};
 use crate::{BadLine, Plan};
-use words::layout::{Counts, LAYOUT_2};
+use words::layout::Counts;
 use words::{Entry, flat};
 
 const MOST_BYTES: usize = 16384;
@@ -34,7 +34,7 @@ fn counts_of(line: &[u8]) -> Option<(u16, u16)>
 {
     match line_of(line)? {
         Line::Board(workers, nodes) => {
-            let counts = Counts::new(LAYOUT_2, workers, nodes)?;
+            let counts = Counts::new(workers, nodes)?;
             Some((counts.workers, counts.nodes))
         }
         Line::Entries(..) => None,

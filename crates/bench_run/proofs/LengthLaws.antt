@@ -13,7 +13,6 @@ use lib.Dec.{leb}
 use Rattle.std.proofs.lemmas.Bool.Decides.{nat_tests}
 use Rattle.worker.specs.Refusals.{Test, refusal_number, judged}
 use Rattle.words.specs.Replies.{Reply, refused, accepted, replied}
-use Rattle.words.specs.Layout.{layout2}
 use Rattle.words.proofs.Bounds.{counts}
 use Rattle.words.proofs.Judged.{numbered, judged_numbered, judged_accepted}
 use Rattle.arena.specs.Init.{fresh_words}
@@ -137,11 +136,11 @@ run_short : (workers nodes : ℕ) (schedule : List ℕ) → Accepted (replicate 
     length (run_text workers nodes schedule) ≤ 131072
 unfolding run_text
 run_short workers nodes schedule passed =
-    let r : Schedule = fresh_schedule layout2 workers nodes (entries_of schedule) passed.counts in
+    let r : Schedule = fresh_schedule workers nodes (entries_of schedule) passed.counts in
     simp length-append
     (omega (
       arith,
-      totals_short (totals_of (totals (fresh_words layout2 workers nodes) (entries_of schedule))),
+      totals_short (totals_of (totals (fresh_words workers nodes) (entries_of schedule))),
       calls_short (waits_of workers nodes schedule) (records_of workers nodes schedule),
       calls_few workers nodes schedule passed.counts,
       waits_few workers nodes schedule passed.counts,
@@ -152,7 +151,7 @@ run_short workers nodes schedule passed =
       roll_short (keys_of (arena r (last r))),
       keys_few (arena r (last r)),
       (sound r (last r)).nodes_are,
-      counts layout2 workers nodes passed.counts,
+      counts workers nodes passed.counts,
     ))
 
 schedule_short : (workers nodes : ℕ) (schedule : List ℕ) → length (schedule_text workers nodes schedule) ≤ 131072

@@ -15,7 +15,7 @@ use Rattle.worker.specs.declared.refusal.Refusal.{Refusal}
 use Rattle.worker.specs.declared.report.Step.{Step}
 use Rattle.worker.specs.declared.refusal.Refusal.TheVariants.{NoRoom}
 use Rattle.std.specs.Prelude.{Result, Ok, Err}
-use Rattle.words.specs.Layout.{layout2, node_width, good_counts, total}
+use Rattle.words.specs.Layout.{good_counts, total}
 use Rattle.words.specs.Records.{with_worker}
 use Rattle.words.specs.Replies.{refused, accepted, refusing, reply, replied}
 use Rattle.words.proofs.Bounds.{counts}
@@ -69,8 +69,8 @@ after_length words x = go (is_turn x)
     go false = judged_length (start_refusals words x.worker x.act x.key x.length) words
         (with_worker words x.worker (started_worker x.act x.key x.length)) (rw length-sets)
 
-arena_length : (r : Schedule) (time : ℕ) → length r.initial ≡ total layout2 r.workers r.nodes →
-    length (arena r time) ≡ total layout2 r.workers r.nodes
+arena_length : (r : Schedule) (time : ℕ) → length r.initial ≡ total r.workers r.nodes →
+    length (arena r time) ≡ total r.workers r.nodes
 unfolding arena_at
 arena_length r zero fresh = fresh
 arena_length r (suc time) fresh = after_length (arena r time) (entry r time) ∙ arena_length r time fresh
@@ -97,17 +97,17 @@ module _ (workers nodes : ℕ) (schedule : List ℕ) where
     passed = run_passed lent workers nodes schedule record_count wait_count _ told
 
     abbrev run : Schedule
-    run = fresh_schedule layout2 workers nodes (entries_of schedule) passed.counts
+    run = fresh_schedule workers nodes (entries_of schedule) passed.counts
 
     -- where the run is accepted, its text is printed
     pub done_text : run_text workers nodes schedule ≡ schedule_text workers nodes schedule
     unfolding schedule_text run_answer
     done_text = sym (judged_accepted refusals _ text_of (run_text workers nodes schedule) told)
 
-    pub totals_are : t ≡ totals_of (totals (fresh_words layout2 workers nodes) (entries_of schedule))
+    pub totals_are : t ≡ totals_of (totals (fresh_words workers nodes) (entries_of schedule))
     unfolding run_answer
     totals_are =
-        let all = totals (fresh_words layout2 workers nodes) (entries_of schedule) in
+        let all = totals (fresh_words workers nodes) (entries_of schedule) in
         let same : t.entries ∷ t.refused ∷ t.waits ∷ t.calls ∷ [] ≡ all.entries ∷ all.refused ∷ all.waits ∷ all.calls ∷ []
         = given_values refusals (all.entries ∷ all.refused ∷ all.waits ∷ all.calls ∷ []) told in
         let entries_same : t.entries ≡ all.entries = cc in
@@ -145,23 +145,23 @@ module _ (workers nodes : ℕ) (schedule : List ℕ) where
     few_waits = omega (arith, waits_counted, waits_few workers nodes schedule passed.counts, passed.waits_fit)
 
     -- and the first words are the arena
-    pub arena_are : take (total layout2 workers nodes) (run_arena lent workers nodes schedule record_count wait_count)
-        ≡ arena_at (fresh_words layout2 workers nodes) (entries_of schedule) (length (entries_of schedule))
+    pub arena_are : take (total workers nodes) (run_arena lent workers nodes schedule record_count wait_count)
+        ≡ arena_at (fresh_words workers nodes) (entries_of schedule) (length (entries_of schedule))
     unfolding run_arena run_answer
     arena_are =
-        ap (take (total layout2 workers nodes))
-        (judged_accepted refusals _ (λ refusal. lent) (arena run (last run) ++ drop (total layout2 workers nodes) lent) told)
-        ∙ take_at (arena run (last run)) (drop (total layout2 workers nodes) lent) (total layout2 workers nodes)
-        (arena_length run (last run) (fresh_length layout2 workers nodes (omega (arith, counts layout2 workers nodes passed.counts))))
+        ap (take (total workers nodes))
+        (judged_accepted refusals _ (λ refusal. lent) (arena run (last run) ++ drop (total workers nodes) lent) told)
+        ∙ take_at (arena run (last run)) (drop (total workers nodes) lent) (total workers nodes)
+        (arena_length run (last run) (fresh_length workers nodes (omega (arith, counts workers nodes passed.counts))))
 
-    pub roll_room : Listed (arena_at (fresh_words layout2 workers nodes) (entries_of schedule) (length (entries_of schedule))) (replicate 1024 0)
+    pub roll_room : Listed (arena_at (fresh_words workers nodes) (entries_of schedule) (length (entries_of schedule))) (replicate 1024 0)
     roll_room = roll_fits run (last run)
 
     -- and these are the parts of what is printed
     pub whole_text : {row : List Call} {waits : List Wait} {words : List ℕ} {end : ℕ} →
         row ≡ run_records lent workers nodes schedule (replicate record_count no_call) wait_count →
         waits ≡ run_waits lent workers nodes schedule record_count (replicate wait_count no_wait) →
-        words ≡ run_arena lent workers nodes schedule record_count wait_count → end ≡ total layout2 workers nodes →
+        words ≡ run_arena lent workers nodes schedule record_count wait_count → end ≡ total workers nodes →
         totals_text t ++ calls_text (take t.waits waits) 0 (take t.calls row) ++ roll_text (keys_of (take end words))
         ≡ schedule_text workers nodes schedule
     unfolding run_text
@@ -210,12 +210,11 @@ good_plan entries few =
     let whole_entries : length (flat_words entry_words entries) % entry_width ≡ 0 = omega (arith, sized) in
     rw (whole_entries, le-ltb 16000 (length (flat_words entry_words entries)) (omega (arith, few, sized)))
 
-wide_enough : (workers nodes : ℕ) → good_counts layout2 workers nodes ≡ true →
-    ltb (length {A = ℕ} (replicate arena_words 0)) (total layout2 workers nodes) ≡ false
-unfolding node_width
+wide_enough : (workers nodes : ℕ) → good_counts workers nodes ≡ true →
+    ltb (length {A = ℕ} (replicate arena_words 0)) (total workers nodes) ≡ false
 wide_enough workers nodes good =
-    le-ltb (length {A = ℕ} (replicate arena_words 0)) (total layout2 workers nodes)
-    (omega (arith, counts layout2 workers nodes good, length-replicate {A = ℕ} arena_words 0))
+    le-ltb (length {A = ℕ} (replicate arena_words 0)) (total workers nodes)
+    (omega (arith, counts workers nodes good, length-replicate {A = ℕ} arena_words 0))
 
 pub only_no_room : (input : List ℕ) (workers nodes : ℕ) (entries : List Entry) → reading_of input ≡ planned workers nodes entries →
     {number : ℕ} → refused number ≡ replied (run_refusals (replicate arena_words 0) workers nodes (flat_words entry_words entries) record_count wait_count) [] →

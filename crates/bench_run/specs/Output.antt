@@ -3,7 +3,6 @@ use Rattle.std.specs.Prelude.{ℕ, suc, Bool, length, replicate, eqb}
 use Rattle.std.specs.List.{filter, flat_map}
 use mathlib.Core.List.{List, [], ◌∷◌, ◌++◌}
 use Rattle.worker.specs.Refusals.{refusal_number, judged}
-use Rattle.words.specs.Layout.{layout2}
 use Rattle.words.specs.Flat.{flat_words}
 use Rattle.words.specs.Entries.{entry_words, entries_of}
 use Rattle.arena.specs.Init.{fresh_words}
@@ -22,7 +21,7 @@ record_count = 1000
 abbrev pub wait_count : ℕ
 wait_count = 4000
 
--- the words it lends for an arena: enough for 8 workers and 1,024 nodes in layout 2
+-- the words it lends for an arena: enough for 8 workers and 1,024 nodes
 abbrev pub arena_words : ℕ
 arena_words = 5192
 
@@ -42,9 +41,9 @@ calls_text waits number (call ∷ calls) = lines_text waits number call ++ calls
 unfoldable pub run_text : ℕ → ℕ → List ℕ → List ℕ
 run_text workers nodes schedule =
     let entries = entries_of schedule in
-    totals_text (totals_of (totals (fresh_words layout2 workers nodes) entries))
+    totals_text (totals_of (totals (fresh_words workers nodes) entries))
     ++ calls_text (waits_of workers nodes schedule) 0 (records_of workers nodes schedule)
-    ++ roll_text (keys_of (arena_at (fresh_words layout2 workers nodes) entries (length entries)))
+    ++ roll_text (keys_of (arena_at (fresh_words workers nodes) entries (length entries)))
 
 -- a refused run prints its number alone, and that is 8 (`OutputLaws.only_no_room`)
 unfoldable pub schedule_text : ℕ → ℕ → List ℕ → List ℕ

@@ -46,7 +46,7 @@ fn print_schedule(out: &mut Output, workers: u16, nodes: u16, schedule: &[u16])
         Ok(totals) => {
             let calls = &ran.row[0..usize::from(totals.calls)];
             let waits = &ran.waits[0..usize::from(totals.waits)];
-            let end = layout::total(layout::LAYOUT_2, workers, nodes);
+            let end = layout::total(workers, nodes);
             out.print_totals(totals);
             print_calls(out, calls, waits);
             print_roll(out, &arena[0..end]);

@@ -1,17 +1,17 @@
 -- What a C program reads from the one number.
 use Prim.Native.Nat.{ℕ, ◌+◌, ◌*◌, ◌/◌, ◌<◌}
 use mathlib.Core.Path.{◌≡◌, refl}
+use mathlib.Core.Bool.{Bool}
 use mathlib.Core.List.{List, [], ◌∷◌}
 use native.Mathlib.Omega.{arith}
 use Rattle.std.specs.Prelude.{Result, Ok, Err}
 use Rattle.worker.specs.Refusals.{Test}
 use Rattle.worker.specs.Report.{report_values}
 use Rattle.worker.specs.declared.refusal.Refusal.{Refusal}
-use Rattle.worker.specs.declared.refusal.Refusal.TheVariants.{ShortArena, OddHeader, NoSuchWorker, Busy, BadCall, BrokenRecord, BrokenChain, NoRoom, BadSchedule, BadCounts, LengthsMissing, BrokenCount}
+use Rattle.worker.specs.declared.refusal.Refusal.TheVariants.{ShortArena, OddHeader, NoSuchWorker, Busy, BadCall, BrokenRecord, BrokenChain, NoRoom, BadSchedule, BadCounts, OldLayout, BrokenCount}
 use Rattle.worker.proofs.RefusalLaws.{judged_keeps}
 use Rattle.words.specs.Replies.{Reply, refused, accepted, refusing, reply, no_values, replied}
 use Rattle.words.specs.Header.{header_refusals}
-use Rattle.words.specs.Layout.{layout2}
 use Rattle.words.specs.Entries.{entries_of}
 use Rattle.arena.specs.Init.{fresh_words, init_refusals, init_answer}
 use Rattle.arena.specs.Start.{start_refusals, start_answer}
@@ -62,7 +62,7 @@ refusal_readable BrokenChain = (omega arith, omega arith, omega arith)
 refusal_readable NoRoom = (omega arith, omega arith, omega arith)
 refusal_readable BadSchedule = (omega arith, omega arith, omega arith)
 refusal_readable BadCounts = (omega arith, omega arith, omega arith)
-refusal_readable LengthsMissing = (omega arith, omega arith, omega arith)
+refusal_readable OldLayout = (omega arith, omega arith, omega arith)
 refusal_readable BrokenCount = (omega arith, omega arith, omega arith)
 
 accepted_readable : (values : List ℕ) → Readable (accepted values)
@@ -90,9 +90,9 @@ told_bare values (Ok given) = refl
 told_bare values (Err refusal) = refl
 
 module _ (arena : List ℕ) where
-  pub init_readable : (layout workers nodes : ℕ) → Readable (init_answer arena layout workers nodes)
+  pub init_readable : (workers nodes : ℕ) → Readable (init_answer arena workers nodes)
   unfolding init_answer
-  init_readable layout workers nodes = replied_readable (init_refusals arena layout workers nodes) []
+  init_readable workers nodes = replied_readable (init_refusals arena workers nodes) []
 
   pub start_readable : (worker operation key length : ℕ) → Readable (start_answer arena worker operation key length)
   unfolding start_answer
@@ -115,9 +115,9 @@ module _ (arena : List ℕ) where
   longest_free_run_readable last =
       unreported_readable (longest_free_run_answer arena last) (replied_readable (longest_free_run_refusals arena last) _)
 
-  pub convert_readable : (layout : ℕ) (lengths : List ℕ) (room : ℕ) → Readable (convert_answer layout arena lengths room)
+  pub convert_readable : (lengthening : Bool) (lengths : List ℕ) (room : ℕ) → Readable (convert_answer lengthening arena lengths room)
   unfolding convert_answer
-  convert_readable layout lengths room = replied_readable (convert_refusals layout arena lengths room) []
+  convert_readable lengthening lengths room = replied_readable (convert_refusals lengthening arena lengths room) []
 
   pub run_readable : (workers nodes : ℕ) (schedule : List ℕ) (call_room wait_room : ℕ) →
       Readable (run_answer arena workers nodes schedule call_room wait_room)
@@ -131,7 +131,7 @@ module _ (arena : List ℕ) where
 
 -- a run that returns 0 is done
 pub zero_done : (s : Result Totals Refusal) (workers nodes : ℕ) (schedule : List ℕ) → reply_number (reply no_values s) ≡ 0 →
-    DoneLinearizable s workers nodes schedule → Linearizable [] (fresh_words layout2 workers nodes) (entries_of schedule)
+    DoneLinearizable s workers nodes schedule → Linearizable [] (fresh_words workers nodes) (entries_of schedule)
 zero_done (Ok totals) workers nodes schedule zero holds = holds
 zero_done (Err refusal) workers nodes schedule zero holds =
     let readable = refusal_readable refusal in absurd (omega (arith, readable.0))

@@ -2,7 +2,6 @@
 #![tactic(auto)]
 
 ghost use Rattle.std.specs.Prelude.{◌≡◌, ◌/◌, [], length};
-ghost use Rattle.words.specs.Layout.{layout2};
 ghost use Rattle.words.specs.Replies.{no_values, reply};
 ghost use Rattle.words.specs.Entries.{entries_of};
 ghost use Rattle.arena.specs.Init.{fresh_words, init_answer, init_arena};
@@ -23,16 +22,16 @@ use worker::Refusal;
 
 mod number;
 
-// Lays a fresh arena of a layout.
+// Lays a fresh arena.
 #[unsafe(no_mangle)]
-pub extern "C" fn lazy_list_init(arena: &mut [u16], layout: u16, workers: u16, nodes: u16) -> u64
-    ensures number { result ≡ reply_number (init_answer arena.old layout workers nodes) }
-    ensures words { arena.new ≡ init_arena arena.old layout workers nodes }
+pub extern "C" fn lazy_list_init(arena: &mut [u16], workers: u16, nodes: u16) -> u64
+    ensures number { result ≡ reply_number (init_answer arena.old workers nodes) }
+    ensures words { arena.new ≡ init_arena arena.old workers nodes }
 {
-    number(arena::init(arena, layout, workers, nodes))
+    number(arena::init(arena, workers, nodes))
 }
 
-// Starts a call on a worker; an add in layout 2 carries the length of its label, every other call 0.
+// Starts a call on a worker; an add carries the length of its label, every other call 0.
 #[unsafe(no_mangle)]
 pub extern "C" fn lazy_list_start(
     arena: &mut [u16],
@@ -78,7 +77,7 @@ pub extern "C" fn lazy_list_snapshot(arena: &[u16], keys: &mut [u16]) -> u64
     number(arena::snapshot(arena, keys))
 }
 
-// How many labels are stored, in layout 2.
+// How many labels are stored.
 #[tactic(auto, using(crate::proofs::NumberLaws::told_unreported))]
 #[unsafe(no_mangle)]
 pub extern "C" fn lazy_list_stored(arena: &[u16]) -> u64
@@ -141,7 +140,7 @@ pub extern "C" fn lazy_list_run(
         history.old waits.old }
     ensures totals { totals.new ≡ values_or totals.old (run_answer arena.old workers nodes
         schedule.now (length history.old / call_width) (length waits.old / wait_width)) }
-    ensures linearizable { result ≡ 0 → Linearizable [] (fresh_words layout2 workers nodes) (entries_of schedule.now) }
+    ensures linearizable { result ≡ 0 → Linearizable [] (fresh_words workers nodes) (entries_of schedule.now) }
 {
     let summary = schedule::run(arena, workers, nodes, schedule, history, waits);
     number(write_totals(totals, summary))

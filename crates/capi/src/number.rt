@@ -2,7 +2,6 @@
 ghost use Rattle.std.specs.Prelude.{◌≡◌, [], ◌∷◌, List, ℕ};
 ghost use Rattle.worker.specs.Report.{answer_number, report_values};
 ghost use Rattle.words.specs.Replies.{accepted, no_values, or_none, reply};
-ghost use Rattle.arena.specs.Stored.{stored_values};
 ghost use Rattle.lazy.specs.FindFree.{found_values};
 ghost use Rattle.free_cells.specs.LongestFreeRun.{run_values};
 ghost use Rattle.capi.specs.Number.{reply_number, Reads, Fitting};
@@ -46,21 +45,12 @@ impl Told for () {
     }
 }
 
-// The count of a snapshot's keys.
+// A count: of a snapshot's keys, or of the stored labels.
 impl Told for u16 {
     ghost values = { λ count. 0 ∷ count ∷ [] };
 
     fn number(self) -> u64 {
         FIRST * (self as u64)
-    }
-}
-
-// The count of stored labels, if there is one.
-impl Told for Option<u16> {
-    ghost values = { λ stored. 0 ∷ stored_values stored };
-
-    fn number(self) -> u64 {
-        FIRST * (or_none(self) as u64)
     }
 }
 

@@ -1,27 +1,27 @@
--- What an accepted conversion leaves, and that the way back gives the same words.
+-- What an accepted conversion leaves.
 use Prim.Native.Nat.{ℕ}
 use mathlib.Core.Path.{◌≡◌, refl, sym, ap, ap₂, subst, ◌∙◌}
 use mathlib.Core.List.{List, [], ◌∷◌, ◌++◌, map, Memᴰ}
-use mathlib.Core.Bool.{Bool, true, false, cond}
-use lib.ListN.{length, drop, length-map}
-use Rattle.std.specs.Prelude.{Some, None}
+use mathlib.Core.Bool.{Bool, true, cond, not}
+use lib.ListN.{length, drop}
 use lib.Dec.{eqb}
 use borrow.Author.Tests.{eq-eqb}
 use Rattle.std.proofs.Math.Bool.{or-true}
 use Rattle.worker.specs.declared.Node.{Node}
 use Rattle.worker.specs.Worker.{among}
-use Rattle.worker.proofs.RefusalLaws.{none_of_both}
-use Rattle.words.specs.Layout.{node_width, has_count, header_words, layout_of, workers_of, nodes_of, node_part, total}
-use Rattle.words.specs.Header.{header_refusals}
-use Rattle.words.proofs.HeaderLaws.{Header, header_of}
+use Rattle.worker.proofs.RefusalLaws.{none_of_both, none_accepts}
+use Rattle.words.specs.Layout.{workers_of, nodes_of}
+use Rattle.words.specs.Replies.{accepted, refusing}
 use Rattle.words.proofs.Judged.{none_holds, judged_accepted}
 use Rattle.arena.specs.declared.chain.Label.{Label}
-use Rattle.arena.specs.Sets.{chain_labels, keys_in, label_in, nodes_of_set, set_of}
-use Rattle.arena.specs.Snapshot.{keys_of}
+use Rattle.arena.specs.Sets.{chain_labels, keys_in, label_at}
+use Rattle.arena.specs.Snapshot.{chain_keys}
 use Rattle.arena.proofs.SameChains.{chain_same, set_nodes_same}
 use Rattle.arena.proofs.SetLaws.{set_nodes_below}
+use Rattle.convert.specs.Layouts.{total_words, new_header, arena_node, arena_set, layout_refusals}
 use Rattle.convert.specs.Claims.{new_label, Converts, Converting}
-use Rattle.convert.specs.Convert.{IsWanted, conversion_refusals, convert_refusals, converted, convert_answer, convert_target}
+use Rattle.convert.specs.Convert.{source_node, source_set, conversion_refusals, convert_refusals, converted, convert_answer, convert_target}
+use Rattle.convert.proofs.Accepted.{Ordered, ordered_of}
 use Rattle.convert.proofs.Converted.{new, new_passes, worker_same, node_is, node_same}
 
 -- what is in a list is among it
@@ -40,59 +40,55 @@ same_labels f g [] same = refl
 same_labels f g (node ∷ nodes) same =
     ap₂ ◌∷◌ (same node (Memᴰ.head refl)) (same_labels f g nodes (λ other m. same other (Memᴰ.tail m)))
 
-module _ (layout : ℕ) (source lengths past : List ℕ) (wanted : IsWanted layout) (header : Header source) where
+module _ (lengthening : Bool) (source lengths past : List ℕ) (header : Ordered (not lengthening) source) where
   abbrev now : List ℕ
-  now = new layout source lengths past wanted header
+  now = new lengthening source lengths past header
 
-  same_set : nodes_of_set now ≡ nodes_of_set source
-  unfolding converted header_words
-  same_set =
-      set_nodes_same (node_width (layout_of source)) (node_width layout) (node_part source) (node_part now) (nodes_of source)
-      (node_same layout source lengths past wanted header)
+  abbrev old : ℕ → Node
+  old = source_node lengthening source
 
-  labels_are : set_of now ≡ map (new_label layout source lengths) (nodes_of_set source)
-  unfolding set_of chain_labels
+  abbrev places : List ℕ
+  places = source_set lengthening source
+
+  same_set : arena_set lengthening now ≡ places
+  unfolding converted new_header
+  same_set = set_nodes_same old (arena_node lengthening now) (nodes_of source) (node_same lengthening source lengths past header)
+
+  labels_are : chain_labels (arena_node lengthening now) (nodes_of now) ≡ map (new_label lengthening source lengths) places
+  unfolding chain_labels
   labels_are =
-      ap (map (label_in now)) same_set
-      ∙ same_labels (label_in now) (new_label layout source lengths) (nodes_of_set source) (λ node m. label_is node m)
+      ap (map (label_at (arena_node lengthening now))) same_set
+      ∙ same_labels (label_at (arena_node lengthening now)) (new_label lengthening source lengths) places (λ node m. label_is node m)
     where
-      label_is : (node : ℕ) → Memᴰ node (nodes_of_set source) → label_in now node ≡ new_label layout source lengths node
+      label_is : (node : ℕ) → Memᴰ node places → label_at (arena_node lengthening now) node ≡ new_label lengthening source lengths node
       label_is node m =
-          let there = set_nodes_below (node_width (layout_of source)) (node_part source) (nodes_of source) m in
-          let is = node_is layout source lengths past wanted header node there in
+          let is = node_is lengthening source lengths past header node (set_nodes_below old (nodes_of source) m) in
           ap (λ (n : Node). record { key = n.key; length = n.length }) is ∙ rw (among_these m)
 
   -- it is all that is claimed
-  pub is_converted : Converts layout source lengths now
-  unfolding converted header_words keys_of set_of chain_labels
+  pub is_converted : Converts lengthening source lengths now
+  unfolding converted new_header chain_keys chain_labels
   is_converted =
       record {
-        in_order = new_passes layout source lengths past wanted header;
-        layout_is = refl;
+        in_order = none_accepts (layout_refusals lengthening now) refusing (accepted []) (new_passes lengthening source lengths past header);
         workers_are = refl;
         nodes_are = refl;
-        same_workers = worker_same layout source lengths past wanted header;
-        same_nodes = node_same layout source lengths past wanted header;
-        same_chain = chain_same (node_width (layout_of source)) (node_width layout) (node_part source) (node_part now) (nodes_of source) (node_same layout source lengths past wanted header);
+        same_workers = worker_same lengthening source lengths past header;
+        same_nodes = node_same lengthening source lengths past header;
+        same_chain = chain_same old (arena_node lengthening now) (nodes_of source) (node_same lengthening source lengths past header);
         same_set = same_set;
-        same_keys = ap keys_in labels_are
-            ∙ keys_of_nodes (new_label layout source lengths) (nodes_of_set source)
-            ∙ sym (keys_of_nodes (label_in source) (nodes_of_set source));
+        same_keys = ap keys_in labels_are ∙ keys_of_nodes (new_label lengthening source lengths) places ∙ sym (keys_of_nodes (label_at old) places);
         labels_are = labels_are;
-        counts = counted (has_count layout);
+        counts = ap (λ (nodes : List ℕ). cond lengthening (length nodes) 0) (sym same_set);
       }
-    where
-      counted : (t : Bool) → cond t (Some (cond t (length (nodes_of_set source)) 0)) None ≡ cond t (Some (length (set_of now))) None
-      counted true = ap Some (sym (ap length labels_are ∙ length-map (nodes_of_set source) (new_label layout source lengths)))
-      counted false = refl
 
 -- every accepted conversion leaves such an arena
 pub converts : Converting
 unfolding convert_answer convert_target convert_refusals
-converts layout source lengths target wanted accepts =
-    let refusals = convert_refusals layout source lengths (length target) in
-    let none = none_of_both (header_refusals source) (conversion_refusals layout source lengths (length target)) (none_holds refusals [] (sym accepts)) in
-    let header = header_of source none.0 in
-    let past = drop (total layout (workers_of source) (nodes_of source)) target in
-    let left : convert_target layout source lengths target ≡ converted layout source lengths ++ past = judged_accepted refusals [] _ _ (sym accepts) in
-    subst (Converts layout source lengths) (sym left) (is_converted layout source lengths past wanted header)
+converts lengthening source lengths target accepts =
+    let refusals = convert_refusals lengthening source lengths (length target) in
+    let tests = layout_refusals (not lengthening) source in
+    let none = none_of_both tests (conversion_refusals lengthening source lengths (length target)) (none_holds refusals [] (sym accepts)) in
+    let past = drop (total_words lengthening (workers_of source) (nodes_of source)) target in
+    let left : convert_target lengthening source lengths target ≡ converted lengthening source lengths ++ past = judged_accepted refusals [] _ _ (sym accepts) in
+    subst (Converts lengthening source lengths) (sym left) (is_converted lengthening source lengths past (ordered_of (not lengthening) source none.0))

@@ -1,35 +1,35 @@
 -- To layout 2 with every length 1, and back: nothing refuses the way back, and the words are the same.
 use Prim.Native.Nat.{ℕ, zero, suc, ◌+◌, ◌≤◌, ◌<◌}
 use mathlib.Core.Path.{◌≡◌, refl, sym, ap, subst, ◌∙◌}
-use mathlib.Core.Logic.{◌≢◌}
 use mathlib.Core.List.{List, [], ◌∷◌, ◌++◌, Memᴰ}
 use mathlib.Core.Bool.{Bool, true, false, not, ◌||◌}
 use mathlib.Mathlib.Data.Bool.Basic.{and_elim_left, and_elim_right}
 use native.Mathlib.Omega.{arith}
 use lib.Dec.{ltb}
 use lib.ListN.{length, take, drop}
-use borrow.Author.Tests.{eqb-false, le-ltb, not-false}
+use borrow.Author.Tests.{le-ltb, not-false}
 use Rattle.std.specs.List.{list_any, list_all}
 use Rattle.worker.specs.Worker.{is_length, last_stage, idle_stage}
 use Rattle.worker.specs.declared.Node.{Node}
 use Rattle.worker.specs.declared.Worker.{Worker}
 use Rattle.worker.proofs.RefusalLaws.{NoneHolds, none_of_both, none_in_both, none_accepts}
-use Rattle.words.specs.Layout.{word, layout1, layout2, node_width, total, header_words, layout_of, workers_of, nodes_of, total_of, stored_of, worker_part, node_part}
-use Rattle.words.specs.Records.{worker_at, node_words, node_at}
+use Rattle.words.specs.Layout.{word, workers_of, nodes_of, total_of, stored_of, worker_part, node_part}
+use Rattle.words.specs.Records.{worker_at}
 use Rattle.words.specs.Flat.{flat_words}
 use Rattle.words.specs.Replies.{accepted, refusing}
-use Rattle.words.specs.Header.{header_refusals}
-use Rattle.words.proofs.HeaderLaws.{Header, header_of, part_long}
+use Rattle.words.proofs.HeaderLaws.{part_long}
 use Rattle.words.proofs.Judged.{none_holds, judged_accepted}
 use Rattle.words.proofs.Laid.{parts_whole}
 use Rattle.arena.specs.Lists.{numbers_from}
-use Rattle.arena.specs.Sets.{is_none, node_in, nodes_of_set}
+use Rattle.arena.specs.Sets.{is_none}
 use Rattle.arena.specs.Snapshot.{chain_broken}
 use Rattle.arena.proofs.SetLaws.{set_nodes_below}
+use Rattle.convert.specs.Layouts.{first_words, total_words, new_header, part_node, arena_node, layout_refusals}
 use Rattle.convert.specs.Claims.{Converts, RoundTrip}
-use Rattle.convert.specs.Convert.{any_above, node_fits, conversion_refusals, convert_refusals, new_node, converted, convert_answer, convert_target, to_layout_2_target, to_layout_1_answer, to_layout_1_target}
+use Rattle.convert.specs.Convert.{any_above, source_node, source_set, node_fits, conversion_refusals, convert_refusals, new_node, converted, convert_answer, convert_target, to_layout_2_target, to_layout_1_answer, to_layout_1_target}
 use Rattle.convert.proofs.NodeRecords.{same_records, nodes_written}
-use Rattle.convert.proofs.Converted.{new_workers, node_is}
+use Rattle.convert.proofs.Accepted.{Ordered, ordered_of}
+use Rattle.convert.proofs.Converted.{new_passes, new_workers, node_is}
 use Rattle.convert.proofs.Laws.{among_these, is_converted}
 
 -- a test that holds of every one of a list, and one that holds of each
@@ -47,30 +47,25 @@ unfolding numbers_from
 any_same f g n zero same = refl
 any_same f g n (suc left) same = rw (same n (omega arith)) (ap (λ others. g n || others) (any_same f g (suc n) left (λ m h. same m (omega arith))))
 
-module _ (source lengths past : List ℕ) (header : Header source) (layout_is : layout_of source ≡ layout1)
-    (ones : (node : ℕ) → node < nodes_of source → word lengths node ≡ 1) where
+module _ (source lengths past : List ℕ) (header : Ordered false source) (ones : (node : ℕ) → node < nodes_of source → word lengths node ≡ 1) where
   abbrev new : List ℕ
-  new = converted layout2 source lengths ++ past
+  new = converted true source lengths ++ past
 
-  now : Converts layout2 source lengths new
-  now = is_converted layout2 source lengths past refl header
+  now : Converts true source lengths new
+  now = is_converted true source lengths past header
 
   -- the way back gives the words of the source
-  back_words : converted layout1 new [] ≡ take (total_of source) source
-  unfolding converted header_words node_width
+  back_words : converted false new [] ≡ take (total_of source) source
+  unfolding converted new_header
   back_words =
-      let records : flat_words (new_node layout1 new []) (numbers_from 0 (nodes_of source)) ≡ node_part source
-      = same_records _ (λ n. node_words 4 (node_at 4 (node_part source) n)) 0 (nodes_of source)
-      (λ n there. ap (λ (node : Node). node.key ∷ node.next ∷ node.mark ∷ node.owner ∷ []) (now.same_nodes n) ∙ rw layout_is)
-      ∙ nodes_written 4 (omega arith) (omega arith) (node_part source) (nodes_of source) (rw layout_is at (part_long source header)) in
-      let stored : stored_of source ≡ 0 = omega (arith, rw layout_is at header.few_stored) in
-      let whole : take (total_of source) source ≡ header_words layout1 (workers_of source) (nodes_of source) 0 ++ worker_part source ++ node_part source
-      = parts_whole source header ∙ rw (layout_is, stored) in
-      (λ i. header_words layout1 (workers_of source) (nodes_of source) 0 ++ new_workers layout2 source lengths past refl header i ++ records i)
-      ∙ sym whole
-
-  total_same : total layout1 (workers_of source) (nodes_of source) ≡ total_of source
-  total_same = sym (rw layout_is at header.end)
+      let records : flat_words (new_node false new []) (numbers_from 0 (nodes_of source)) ≡ node_part source
+      = same_records _ (λ n. first_words 4 (part_node false (node_part source) n)) 0 (nodes_of source)
+      (λ n there. ap (λ (node : Node). node.key ∷ node.next ∷ node.mark ∷ node.owner ∷ []) (now.same_nodes n))
+      ∙ nodes_written false (node_part source) (nodes_of source) (part_long source header) in
+      let stored : stored_of source ≡ 0 = omega (arith, header.few_stored) in
+      let whole : take (total_of source) source ≡ new_header false (workers_of source) (nodes_of source) 0 ++ worker_part source ++ node_part source
+      = parts_whole source header ∙ rw (header.own, stored) in
+      (λ i. new_header false (workers_of source) (nodes_of source) 0 ++ new_workers true source lengths past header i ++ records i) ∙ sym whole
 
   -- every stage is as it was
   stages : (stage : ℕ) → any_above source stage ≡ false → any_above new stage ≡ false
@@ -82,60 +77,54 @@ module _ (source lengths past : List ℕ) (header : Header source) (layout_is : 
       ∙ none)
 
   -- every length is 1
-  fits_back : list_all (node_fits true source lengths) (nodes_of_set source) ≡ true → (node : ℕ) → Memᴰ node (nodes_of_set new) →
+  fits_back : list_all (node_fits true source lengths) (source_set true source) ≡ true → (node : ℕ) → Memᴰ node (source_set false new) →
       node_fits false new [] node ≡ true
-  unfolding node_width
   fits_back all node m =
-      let of_source : Memᴰ node (nodes_of_set source) = subst (λ nodes. Memᴰ node nodes) now.same_set m in
-      let there = set_nodes_below (node_width (layout_of source)) (node_part source) (nodes_of source) of_source in
-      let is = node_is layout2 source lengths past refl header node there in
-      let key : (node_in new node).key ≡ (node_in source node).key = ap (λ (n : Node). n.key) is in
-      let one : (node_in new node).length ≡ 1 = ap (λ (n : Node). n.length) is ∙ rw (among_these of_source, ones node there) in
-      let fit : is_length (node_in source node).key 1 ≡ true
-      = rw (ones node there) at (and_elim_left (is_length (node_in source node).key (word lengths node)) true (each_holds (node_fits true source lengths) all of_source)) in
+      let of_source : Memᴰ node (source_set true source) = subst (λ nodes. Memᴰ node nodes) now.same_set m in
+      let there = set_nodes_below (source_node true source) (nodes_of source) of_source in
+      let is = node_is true source lengths past header node there in
+      let key : (arena_node true new node).key ≡ (arena_node false source node).key = ap (λ (n : Node). n.key) is in
+      let one : (arena_node true new node).length ≡ 1 = ap (λ (n : Node). n.length) is ∙ rw (among_these of_source, ones node there) in
+      let fit : is_length (arena_node false source node).key 1 ≡ true
+      = rw (ones node there) at (and_elim_left (is_length (arena_node false source node).key (word lengths node)) true (each_holds (node_fits true source lengths) all of_source)) in
       rw (key, one, fit)
 
   -- and no test of it holds
-  none_back : (room first : ℕ) → NoneHolds (conversion_refusals layout2 source lengths first) → total_of source ≤ room →
-      NoneHolds (conversion_refusals layout1 new [] room)
-  unfolding conversion_refusals chain_broken node_width
+  none_back : (room first : ℕ) → NoneHolds (conversion_refusals true source lengths first) → total_of source ≤ room →
+      NoneHolds (conversion_refusals false new [] room)
+  unfolding conversion_refusals chain_broken
   none_back room first none enough = (
-    rw now.layout_is,
+    stages last_stage none.0,
     (
-      stages last_stage none.1.0,
+      stages idle_stage none.1.0,
       (
-        stages idle_stage none.1.1.0,
+        ap is_none now.same_chain ∙ none.1.1.0,
         (
-          ap is_none now.same_chain ∙ none.1.1.1.0,
-          (
-            rw (now.workers_are, now.nodes_are, total_same, le-ltb room (total_of source) enough),
-            (ap not (all_hold (node_fits false new []) (nodes_of_set new) (fits_back (not-false _ none.1.1.1.1.1.0))), tt),
-          ),
+          rw (now.workers_are, now.nodes_are, ← header.end, le-ltb room (total_of source) enough),
+          (ap not (all_hold (node_fits false new []) (source_set false new) (fits_back (not-false _ none.1.1.1.1.0))), tt),
         ),
       ),
     ),
   )
 
   -- so it is accepted, and gives them
-  pub back : (second : List ℕ) (first : ℕ) → NoneHolds (conversion_refusals layout2 source lengths first) → total_of source ≤ length second →
+  pub back : (second : List ℕ) (first : ℕ) → NoneHolds (conversion_refusals true source lengths first) → total_of source ≤ length second →
       (to_layout_1_answer new (length second) ≡ accepted [])
       × (to_layout_1_target new second ≡ take (total_of source) source ++ drop (total_of source) second)
   unfolding convert_answer convert_target convert_refusals
   back second first none enough =
-      let refusals = convert_refusals layout1 new [] (length second) in
-      let passes = none_in_both (header_refusals new) (conversion_refusals layout1 new [] (length second)) (none_holds (header_refusals new) [] (sym now.in_order)) (none_back (length second) first none enough) in (
+      let refusals = convert_refusals false new [] (length second) in
+      let passes = none_in_both (layout_refusals true new) (conversion_refusals false new [] (length second)) (new_passes true source lengths past header) (none_back (length second) first none enough) in (
         none_accepts refusals refusing (accepted []) passes,
-        none_accepts refusals (λ refusal. second) (converted layout1 new [] ++ drop (total layout1 (workers_of new) (nodes_of new)) second) passes
-            ∙ rw (back_words, now.workers_are, now.nodes_are, total_same),
+        none_accepts refusals (λ refusal. second) (converted false new [] ++ drop (total_words false (workers_of new) (nodes_of new)) second) passes
+            ∙ rw (back_words, now.workers_are, now.nodes_are, ← header.end),
       )
 
 pub round_trip : RoundTrip
-unfolding convert_answer convert_target convert_refusals conversion_refusals
+unfolding convert_answer convert_target convert_refusals
 round_trip source lengths first second accepts ones enough =
-    let refusals = convert_refusals layout2 source lengths (length first) in
-    let none = none_of_both (header_refusals source) (conversion_refusals layout2 source lengths (length first)) (none_holds refusals [] (sym accepts)) in
-    let header = header_of source none.0 in
-    let other : layout_of source ≢ layout2 = eqb-false _ _ none.1.0 in
-    let past = drop (total layout2 (workers_of source) (nodes_of source)) first in
-    let left : to_layout_2_target source lengths first ≡ converted layout2 source lengths ++ past = judged_accepted refusals [] _ _ (sym accepts) in
-    rw left (back source lengths past header (omega (arith, header.good)) ones second (length first) none.1 enough)
+    let refusals = convert_refusals true source lengths (length first) in
+    let none = none_of_both (layout_refusals false source) (conversion_refusals true source lengths (length first)) (none_holds refusals [] (sym accepts)) in
+    let past = drop (total_words true (workers_of source) (nodes_of source)) first in
+    let left : to_layout_2_target source lengths first ≡ converted true source lengths ++ past = judged_accepted refusals [] _ _ (sym accepts) in
+    rw left (back source lengths past (ordered_of false source none.0) ones second (length first) none.1 enough)

@@ -2,12 +2,12 @@
 use Rattle.std.specs.Prelude.{ℕ, suc, min, ◌<◌, ◌≡◌, List, Bool, true, false, cond, ◌&&◌, length, get_or, set, replicate}
 use Rattle.std.specs.List.{list_all}
 use Rattle.worker.specs.Node.{with_length}
-use Rattle.words.specs.Layout.{word, has_count, stored_at, nodes_of}
-use Rattle.words.specs.Records.{node_words, node_at}
+use Rattle.worker.specs.declared.Node.{Node}
+use Rattle.words.specs.Layout.{word, stored_at, nodes_of}
 use Rattle.arena.specs.declared.chain.Label.{Label}
-use Rattle.arena.specs.Sets.{nodes_of_set}
 use Rattle.convert.specs.declared.members.Members.{Members}
-use Rattle.convert.specs.Convert.{length_in_2, fits, node_fits, new_length}
+use Rattle.convert.specs.Layouts.{first_words}
+use Rattle.convert.specs.Convert.{length_in_2, fits, source_set, node_fits, new_length}
 
 -- no node has been gathered
 abbrev pub IsEmpty : Members → Type 0
@@ -23,8 +23,8 @@ gathered members node label =
     }
 
 -- what a header of the layout wanted counts
-abbrev pub count_by : Members → ℕ → ℕ
-count_by members layout = cond (has_count layout) members.count 0
+abbrev pub count_by : Members → ℕ
+count_by members = cond members.lengthening members.count 0
 
 -- what a node has for a length in the layout wanted
 abbrev pub length_by : Members → ℕ → ℕ
@@ -34,14 +34,14 @@ length_by members node = cond (get_or members.row node false) (word members.leng
 pub record AllGathered (lengthening : Bool) (source lengths : List ℕ) (members : Members) : Type 0 where
   pub lengthening_is : members.lengthening ≡ lengthening
   pub lent : members.lengths.now ≡ lengths
-  pub counted : members.count ≡ length (nodes_of_set source)
-  pub lengths_are : (node : ℕ) → node < nodes_of source → length_by members node ≡ new_length source lengths node
-  pub fit : members.fit ≡ list_all (node_fits lengthening source lengths) (nodes_of_set source)
+  pub counted : members.count ≡ length (source_set lengthening source)
+  pub lengths_are : (node : ℕ) → node < nodes_of source → length_by members node ≡ new_length lengthening source lengths node
+  pub fit : members.fit ≡ list_all (node_fits lengthening source lengths) (source_set lengthening source)
 
 -- words with another layout, total and count
 abbrev pub with_front : List ℕ → ℕ → ℕ → ℕ → List ℕ
 with_front words layout total stored = set (set (set words 0 layout) 5 total) stored_at stored
 
--- a node's new record
-abbrev pub node_by : ℕ → ℕ → List ℕ → Members → ℕ → List ℕ
-node_by width old_width nodes members node = node_words width (with_length (node_at old_width nodes node) (length_by members node))
+-- a node's new record, of so many words
+abbrev pub node_by : ℕ → (ℕ → Node) → Members → ℕ → List ℕ
+node_by width nodes members node = first_words width (with_length (nodes node) (length_by members node))

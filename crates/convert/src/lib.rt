@@ -3,13 +3,15 @@
 
 ghost use Rattle.std.specs.Prelude.{◌≡◌, length};
 ghost use Rattle.words.specs.Replies.{no_values, reply};
-ghost use Rattle.convert.specs.Convert.{IsWanted, convert_answer, convert_target, to_layout_2_answer, to_layout_2_target, to_layout_1_answer, to_layout_1_target};
+ghost use Rattle.convert.specs.Convert.{convert_answer, convert_target, to_layout_2_answer, to_layout_2_target, to_layout_1_answer, to_layout_1_target};
 
 use members::Members;
-use words::{Arena, layout};
+use source::Source;
 use worker::Refusal;
 
+mod layouts;
 mod members;
+mod source;
 mod verdict;
 mod write;
 
@@ -19,7 +21,7 @@ pub fn to_layout_2(source: &[u16], lengths: &[u16], target: &mut [u16]) -> Resul
     ensures answer { reply no_values result ≡ to_layout_2_answer source.now lengths.now (length target.old) }
     ensures words { target.new ≡ to_layout_2_target source.now lengths.now target.old }
 {
-    convert(layout::LAYOUT_2, source, lengths, target)
+    convert(true, source, lengths, target)
 }
 
 // And one of layout 2 in layout 1, where each stored label is 1 cell long.
@@ -27,19 +29,23 @@ pub fn to_layout_1(source: &[u16], target: &mut [u16]) -> Result<(), Refusal>
     ensures answer { reply no_values result ≡ to_layout_1_answer source.now (length target.old) }
     ensures words { target.new ≡ to_layout_1_target source.now target.old }
 {
-    convert(layout::LAYOUT_1, source, &[], target)
+    convert(false, source, &[], target)
 }
 
-// To the layout wanted. Everything is judged before anything is written.
+// To layout 2, or back. Everything is judged before anything is written.
 #[tactic(auto, unfolding(crate::specs::Convert::convert_answer, crate::specs::Convert::convert_target, crate::specs::Convert::convert_refusals), using(words::proofs::Judged::refused_first, words::proofs::Judged::accepted_first, words::proofs::Judged::judged_refused, words::proofs::Judged::judged_accepted))]
-fn convert(layout: u16, source: &[u16], lengths: &[u16], target: &mut [u16]) -> Result<(), Refusal>
-    requires { IsWanted layout }
-    ensures answer { reply no_values result ≡ convert_answer layout source.now lengths.now (length target.old) }
-    ensures words { target.new ≡ convert_target layout source.now lengths.now target.old }
+fn convert(
+    lengthening: bool,
+    source: &[u16],
+    lengths: &[u16],
+    target: &mut [u16],
+) -> Result<(), Refusal>
+    ensures answer { reply no_values result ≡ convert_answer lengthening source.now lengths.now (length target.old) }
+    ensures words { target.new ≡ convert_target lengthening source.now lengths.now target.old }
 {
-    let arena = Arena::new(source)?;
-    let mut members = Members::new(layout, lengths);
-    verdict::judge(arena, layout, &mut members, target.len())?;
-    write::write_converted(arena, layout, &members, target);
+    let source = Source::new(!lengthening, source)?;
+    let mut members = Members::new(lengthening, lengths);
+    verdict::judge(source, &mut members, target.len())?;
+    write::write_converted(source, &members, target);
     Ok(())
 }

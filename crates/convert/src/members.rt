@@ -1,19 +1,20 @@
 // The nodes of a set, as they are shown one after another, and whether their labels may be converted.
-ghost use Rattle.std.specs.Prelude.{◌≡◌, [], ◌∷◌, IfOk};
-ghost use Rattle.words.specs.Layout.{layout_of, nodes_of, node_width, node_part};
+ghost use Rattle.std.specs.Prelude.{◌≡◌, [], ◌∷◌, not, IfOk};
+ghost use Rattle.words.specs.Layout.{nodes_of};
 ghost use Rattle.words.specs.Replies.{no_values, reply, replied};
 ghost use Rattle.arena.specs.Snapshot.{chain_broken};
-ghost use Rattle.convert.specs.Convert.{fits, lengthens};
+ghost use Rattle.convert.specs.Convert.{source_node, fits};
 ghost use Rattle.convert.specs.Members.{IsEmpty, gathered, AllGathered, count_by, length_by};
 
+use crate::source::Source;
 use arena::{Label, Visitor, visit_labels};
-use words::{Arena, layout, word};
+use words::word;
 use worker::Refusal;
 
 // Of fixed length, for there is no heap.
 #[derive(Drop)]
 pub(crate) struct Members<'a> {
-    // Whether the layout wanted has lengths, and those that are lent for it.
+    // Whether the layout wanted is 2, and the lengths that are lent for it.
     pub(crate) lengthening: bool,
     pub(crate) lengths: &'a [u16],
     // By node number, whether the node is in the set, and how many are.
@@ -24,12 +25,12 @@ pub(crate) struct Members<'a> {
 }
 
 impl<'a> Members<'a> {
-    pub(crate) fn new(layout: u16, lengths: &'a [u16]) -> Self
-        ensures lent { (result.lengthening ≡ lengthens layout) × (result.lengths.now ≡ lengths.now) }
+    pub(crate) fn new(lengthening: bool, lengths: &'a [u16]) -> Self
+        ensures lent { (result.lengthening ≡ lengthening) × (result.lengths.now ≡ lengths.now) }
         ensures empty { IsEmpty result }
     {
         Members {
-            lengthening: layout::has_length(layout::node_width(layout)),
+            lengthening,
             lengths,
             row: [false; 1024],
             count: 0,
@@ -37,26 +38,22 @@ impl<'a> Members<'a> {
         }
     }
 
-    // The nodes of an arena's set, where its chain is whole.
-    pub(crate) fn gather(&mut self, arena: Arena) -> Result<(), Refusal>
-        requires { IsEmpty self.old }
+    // The nodes of the source's set, where its chain is whole.
+    pub(crate) fn gather(&mut self, source: Source) -> Result<(), Refusal>
+        requires { IsEmpty self.old × (source.has_lengths ≡ not self.old.lengthening) }
         ensures answer { reply no_values result ≡ replied
-            (chain_broken (node_width (layout_of arena.entry.words.now)) (node_part arena.entry.words.now) (nodes_of arena.entry.words.now) ∷ []) [] }
-        ensures members { IfOk result (λ done. AllGathered self.old.lengthening arena.entry.words.now self.old.lengths.now self.new) }
+            (chain_broken (source_node self.old.lengthening source.entry.words.now) (nodes_of source.entry.words.now) ∷ []) [] }
+        ensures members { IfOk result (λ done. AllGathered self.old.lengthening source.entry.words.now self.old.lengths.now self.new) }
     {
-        visit_labels(arena.nodes(), self)?;
+        visit_labels(source, self)?;
         Ok(())
     }
 
     // What a header of the layout wanted counts.
-    pub(crate) fn count_in(&self, layout: u16) -> u16
-        ensures { result ≡ count_by self.now layout }
+    pub(crate) fn new_count(&self) -> u16
+        ensures { result ≡ count_by self.now }
     {
-        if layout::has_count(layout) {
-            self.count
-        } else {
-            0
-        }
+        if self.lengthening { self.count } else { 0 }
     }
 
     // What a node has for a length in the layout wanted: the lent one if it is in the set, and else 0.

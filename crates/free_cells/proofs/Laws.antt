@@ -8,12 +8,12 @@ use native.Mathlib.Omega.{arith}
 use Rattle.std.proofs.lemmas.Bool.{cases_lt}
 use Rattle.worker.specs.Worker.{within}
 use Rattle.worker.proofs.RefusalLaws.{NoneHolds, judged_append, none_accepts}
-use Rattle.words.specs.Layout.{has_length, layout_of, nodes_of, node_width, node_part}
+use Rattle.words.specs.Layout.{nodes_of}
 use Rattle.words.specs.Replies.{accepted, refusing}
 use Rattle.words.specs.Header.{header_refusals}
 use Rattle.words.proofs.Judged.{given_values}
 use Rattle.arena.specs.declared.chain.Label.{Label}
-use Rattle.arena.specs.Sets.{Rising, ChainWhole, set_of}
+use Rattle.arena.specs.Sets.{node_in, Rising, ChainWhole, set_of}
 use Rattle.arena.specs.Snapshot.{chain_broken}
 use Rattle.arena.proofs.SetLaws.{set_rises}
 use Rattle.free_cells.specs.declared.FreeRun.{FreeRun}
@@ -101,13 +101,12 @@ module _ (arena : List ℕ) (last : ℕ) where
       let length : run.length ≡ found.length = cc in
       rw (same_run run found first length) (longest_found (set_of arena) last (set_rises arena))
 
-  -- and it is accepted wherever the header is in order, the last cell is one, the chain is whole and nodes have lengths
+  -- and it is accepted wherever the header is in order, the last cell is one, and the chain is whole
   pub accepted_there : NoneHolds (header_refusals arena) → within 1 65534 last ≡ true → ChainWhole arena →
-      has_length (node_width (layout_of arena)) ≡ true →
       longest_free_run_answer arena last ≡ accepted (run_values (longest_free (set_of arena) last))
   unfolding longest_free_run_answer longest_free_run_refusals cells_refusals chain_broken
-  accepted_there header is_cell whole lengths =
-      let cells = cells_refusals (node_width (layout_of arena)) (node_part arena) (nodes_of arena) last in
+  accepted_there header is_cell whole =
+      let cells = cells_refusals (node_in arena) (nodes_of arena) last in
       judged_append (header_refusals arena) cells refusing _
       ∙ none_accepts (header_refusals arena) refusing _ header
-      ∙ none_accepts cells refusing _ (rw is_cell, (whole, (rw lengths, tt)))
+      ∙ none_accepts cells refusing _ (rw is_cell, (whole, tt))

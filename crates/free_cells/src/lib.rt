@@ -2,6 +2,7 @@
 #![tactic(auto)]
 
 ghost use Rattle.std.specs.Prelude.{◌≡◌};
+ghost use Rattle.words.specs.Records.{node_at};
 ghost use Rattle.words.specs.Replies.{reply, replied};
 ghost use Rattle.arena.specs.Sets.{chain_labels};
 ghost use Rattle.free_cells.specs.Search.{longest_free};
@@ -9,7 +10,7 @@ ghost use Rattle.free_cells.specs.LongestFreeRun.{run_values, cells_refusals, lo
 
 use arena::visit_labels;
 use search::Search;
-use words::{Arena, Nodes, layout};
+use words::{Arena, Nodes};
 use worker::Refusal;
 
 mod search;
@@ -28,20 +29,17 @@ pub fn longest_free_run(arena: &[u16], last_cell: u16) -> Result<FreeRun, Refusa
     longest_run(Arena::new(arena)?.nodes(), last_cell)
 }
 
-// Behind the header test. Nodes without lengths are refused last, so their chain is walked like any other.
+// Behind the header test.
 #[tactic(auto, unfolding(crate::specs::LongestFreeRun::cells_refusals, crate::specs::Search::longest_free))]
 fn longest_run(nodes: Nodes, last_cell: u16) -> Result<FreeRun, Refusal>
     ensures { reply run_values result ≡ replied
-        (cells_refusals nodes.entry.width nodes.entry.words.now nodes.entry.count last_cell)
-        (run_values (longest_free (chain_labels nodes.entry.width nodes.entry.words.now nodes.entry.count) last_cell)) }
+        (cells_refusals (node_at nodes.entry.words.now) nodes.entry.count last_cell)
+        (run_values (longest_free (chain_labels (node_at nodes.entry.words.now) nodes.entry.count) last_cell)) }
 {
     if !(1..=65_534).contains(&last_cell) {
         return Err(Refusal::BadCall);
     }
     let mut search = Search::new(last_cell + 1);
     visit_labels(nodes, &mut search)?;
-    if !layout::has_length(nodes.width) {
-        return Err(Refusal::LengthsMissing);
-    }
     Ok(search.found())
 }

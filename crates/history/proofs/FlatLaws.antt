@@ -10,7 +10,6 @@ use Rattle.std.specs.Prelude.{Result, Ok, Err}
 use Rattle.worker.specs.Refusals.{Test, judged}
 use Rattle.worker.specs.declared.refusal.Refusal.{Refusal}
 use Rattle.words.specs.Replies.{reply, replied}
-use Rattle.words.specs.Layout.{layout2}
 use Rattle.words.proofs.Judged.{judged_refused, judged_accepted, given_values}
 use Rattle.arena.specs.Init.{fresh_words}
 use Rattle.linear.specs.History.{totals}
@@ -98,7 +97,7 @@ module _ (arena : List ℕ) (workers nodes : ℕ) (schedule : List ℕ) (call_ro
 
   abbrev values : List ℕ
   values =
-      let told = totals (fresh_words layout2 workers nodes) (entries_of schedule) in
+      let told = totals (fresh_words workers nodes) (entries_of schedule) in
       told.entries ∷ told.refused ∷ told.waits ∷ told.calls ∷ []
 
   calls_counted : (done : Totals) → reply totals_values (Ok done) ≡ replied refusals values →

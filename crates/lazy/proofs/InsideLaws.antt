@@ -14,9 +14,8 @@ use Rattle.worker.specs.declared.report.Effect.TheVariants as effect
 use Rattle.worker.specs.declared.report.Growth.{Growth}
 use Rattle.std.specs.Prelude.{Result, Ok, Err}
 use Rattle.worker.proofs.EffectLaws.{EffectBelow, FreeBelow, done_below}
-use Rattle.words.specs.Layout.{word, layout_of, workers_of, nodes_of, nodes_from_of, total_of, node_width, node_from, node_next, node_mark, node_owner}
+use Rattle.words.specs.Layout.{word, workers_of, nodes_of, nodes_from_of, total_of, node_width, node_from, node_next, node_mark, node_owner}
 use Rattle.words.specs.Records.{worker_at, Outside}
-use Rattle.words.proofs.Bounds.{wide}
 use Rattle.words.proofs.HeaderLaws.{Header}
 use Rattle.words.proofs.Slots.{slot_within}
 use Rattle.lazy.specs.Turn.{seen_of, seen_by, turn_on, turn_arena}
@@ -39,11 +38,11 @@ effect_below arena worker e =
     go false found same = tt
 
 -- a field of a node below N stands among the node records
-pub field_inside : (arena : List ℕ) (node field : ℕ) → Header arena → node < nodes_of arena → field < node_width (layout_of arena) →
+pub field_inside : (arena : List ℕ) (node field : ℕ) → Header arena → node < nodes_of arena → field < node_width →
     (nodes_from_of arena ≤ node_from arena node field) × (node_from arena node field < total_of arena)
 unfolding node_from
 field_inside arena node field header below fits =
-    let inside = slot_within (node_width (layout_of arena)) node (nodes_of arena) field below fits in
+    let inside = slot_within node_width node (nodes_of arena) field below fits in
     (omega arith, omega (arith, header.from, header.end))
 
 module _ (arena : List ℕ) (worker at : ℕ) where
@@ -51,7 +50,7 @@ module _ (arena : List ℕ) (worker at : ℕ) where
   outside known header (inl before) = before.2
   outside known header (inr behind) = inr (omega (arith, header.end))
 
-  away : (node field : ℕ) → Header arena → Elsewhere arena worker at → node < nodes_of arena → field < node_width (layout_of arena) →
+  away : (node field : ℕ) → Header arena → Elsewhere arena worker at → node < nodes_of arena → field < node_width →
       at ≡ node_from arena node field → ⊥
   away node field header (inl before) below fits e =
       let inside = field_inside arena node field header below fits in omega (arith, before.0, inside.0, header.from)
@@ -60,9 +59,9 @@ module _ (arena : List ℕ) (worker at : ℕ) where
 
   not_touched : (e : Effect) → Header arena → Elsewhere arena worker at → EffectBelow (nodes_of arena) e → Touches arena e at → ⊥
   not_touched effect.Nothing header else below touched = touched
-  not_touched (effect.SetOwner node owner) header else below touched = away node node_owner header else below (omega (arith, wide header.good)) touched
-  not_touched (effect.SetNext node next) header else below touched = away node node_next header else below (omega (arith, wide header.good)) touched
-  not_touched (effect.SetMark node) header else below touched = away node node_mark header else below (omega (arith, wide header.good)) touched
+  not_touched (effect.SetOwner node owner) header else below touched = away node node_owner header else below (omega arith) touched
+  not_touched (effect.SetNext node next) header else below touched = away node node_next header else below (omega arith) touched
+  not_touched (effect.SetMark node) header else below touched = away node node_mark header else below (omega arith) touched
   not_touched (effect.Fill node key next length) header else below touched =
       away node touched.0 header else below touched.1 touched.2
 

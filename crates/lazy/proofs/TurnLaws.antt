@@ -30,18 +30,17 @@ use Rattle.worker.proofs.ReportLaws.{report_told}
 use Rattle.worker.proofs.TurnLaws.{judged_done, done_step, step_row}
 use Rattle.worker.proofs.StillLaws.{still_step}
 use Rattle.worker.proofs.CountLaws.{step_grows}
-use Rattle.words.specs.Layout.{word, layout_of, workers_of, nodes_of, stored_of, stored_in, has_count, stored_at, node_width, node_from, node_key, node_next, node_mark, node_owner}
+use Rattle.words.specs.Layout.{word, workers_of, nodes_of, stored_of, stored_at, node_from, node_key, node_next, node_mark, node_owner}
 use Rattle.words.specs.Records.{worker_at, with_worker, node_words, with_node, Outside}
 use Rattle.words.specs.Replies.{refused, accepted, refusing, reply}
 use Rattle.words.specs.Header.{header_refusals}
-use Rattle.words.proofs.Bounds.{narrow, most_few}
 use Rattle.words.proofs.Judged.{reply_told}
 use Rattle.words.proofs.HeaderLaws.{Header, header_holds}
 use Rattle.words.proofs.Runs.{sets_outside}
-use Rattle.words.proofs.RecordLaws.{node_long, others_stay, rewritten}
+use Rattle.words.proofs.RecordLaws.{others_stay, rewritten}
 use Rattle.lazy.specs.FindFree.{next_in, roots_in, found_in}
-use Rattle.lazy.specs.Turn.{seen_of, seen_by, worker_refusals, is_stored, miscounts, counted, turn_on, outcome_of, with_effect, with_changes, turned_arena, turn_answer, turn_arena}
-use Rattle.lazy.specs.Claims.{Takes, IsFull, Touches, Recounts, count_after, BadCount}
+use Rattle.lazy.specs.Turn.{seen_of, seen_by, worker_refusals, miscounts, counted, turn_on, outcome_of, with_effect, with_changes, turned_arena, turn_answer, turn_arena}
+use Rattle.lazy.specs.Claims.{Takes, IsFull, Touches, Recounts, BadCount}
 use Rattle.lazy.proofs.FreeLaws.{lowest_found, lowest_none}
 use Rattle.lazy.proofs.ChangeLaws.{CountFits, effect_before, count_stays, growth_leaves, changes_count}
 
@@ -68,10 +67,7 @@ effect_leaves arena (effect.SetOwner node owner) at out = get_or-set_other arena
 effect_leaves arena (effect.SetNext node next) at out = get_or-set_other arena (node_from arena node node_next) at next 0 out
 effect_leaves arena (effect.SetMark node) at out = get_or-set_other arena (node_from arena node node_mark) at 1 0 out
 effect_leaves arena (effect.Fill node key next length) at out =
-    let width = node_width (layout_of arena) in
-    let filled = new_node key next length in
-    sets_outside (node_words width filled) arena (node_from arena node node_key) at
-    (λ k h e. out (k, omega (arith, node_long width filled (narrow (layout_of arena))), omega arith))
+    sets_outside (node_words (new_node key next length)) arena (node_from arena node node_key) at (λ k h e. out (k, h, omega arith))
 
 -- a turn leaves every word but the worker's own record, what its effect writes, and the count where it changes
 pub turn_leaves : (arena : List ℕ) (worker at : ℕ) {step : Step} → turn_on arena worker ≡ Ok step →
@@ -85,34 +81,30 @@ turn_leaves arena worker at {step} e outside out same =
 
 -- a turn that the count does not refuse is what it was, and its change of the count can be
 counted_done : (arena : List ℕ) (t : Result Step Refusal) {step : Step} → counted arena t ≡ Ok step →
-    (t ≡ Ok step) × (miscounts (nodes_of arena) (stored_in arena) step.growth ≡ false)
+    (t ≡ Ok step) × (miscounts (nodes_of arena) (stored_of arena) step.growth ≡ false)
 unfolding counted
 counted_done arena (Err refusal) e = let z : ◌≡◌ {A = ℕ} 0 1 = cc in absurd (omega arith)
-counted_done arena (Ok taken) {step} e = go (miscounts (nodes_of arena) (stored_in arena) taken.growth) refl e
+counted_done arena (Ok taken) {step} e = go (miscounts (nodes_of arena) (stored_of arena) taken.growth) refl e
   where
     done : Result Step Refusal
     done = Ok taken
 
-    go : (broken : Bool) → miscounts (nodes_of arena) (stored_in arena) taken.growth ≡ broken → cond broken (Err BrokenCount) done ≡ Ok step →
-        (done ≡ Ok step) × (miscounts (nodes_of arena) (stored_in arena) step.growth ≡ false)
+    go : (broken : Bool) → miscounts (nodes_of arena) (stored_of arena) taken.growth ≡ broken → cond broken (Err BrokenCount) done ≡ Ok step →
+        (done ≡ Ok step) × (miscounts (nodes_of arena) (stored_of arena) step.growth ≡ false)
     go true may e = let z : ◌≡◌ {A = ℕ} 0 1 = cc in absurd (omega arith)
     go false may e =
-        let same : taken ≡ step = cc in (e, ap (λ (t : Step). miscounts (nodes_of arena) (stored_in arena) t.growth) (sym same) ∙ may)
+        let same : taken ≡ step = cc in (e, ap (λ (t : Step). miscounts (nodes_of arena) (stored_of arena) t.growth) (sym same) ∙ may)
 
 -- a count at which a stage's change cannot be is the one of document 02's words
-bad_count : (nodes : ℕ) (stored : Option ℕ) (stage : ℕ) → (miscounts nodes stored (growth_at stage) ≡ true) ↔ BadCount nodes stored stage
+bad_count : (nodes stored stage : ℕ) → (miscounts nodes stored (growth_at stage) ≡ true) ↔ BadCount nodes stored stage
 bad_count nodes stored stage = (forth, back)
   where
-    is : (number : ℕ) (count : Option ℕ) → is_stored number count ≡ true → count ≡ Some number
-    is number None e = absurd (true≢false (sym e))
-    is number (Some n) e = ap Some (eqb-true n number e)
-
     forth : miscounts nodes stored (growth_at stage) ≡ true → BadCount nodes stored stage
     forth e =
         elim (ℕ_discrete stage 15) [
-          | yes q ↦ inr (q, is (nodes - 2) stored (rw q at e))
+          | yes q ↦ inr (q, eqb-true stored (nodes - 2) (rw q at e))
           | no q ↦ elim (ℕ_discrete stage 16) [
-            | yes r ↦ inl (r, is 0 stored (rw r at e))
+            | yes r ↦ inl (r, eqb-true stored 0 (rw r at e))
             | no r ↦ absurd (true≢false (sym (rw (ne_eqb stage 15 q, ne_eqb stage 16 r) at e)))
           ]
         ]
@@ -124,7 +116,7 @@ bad_count nodes stored stage = (forth, back)
 -- a turn that nothing else refuses is refused for the count just there
 pub count_refused : (arena : List ℕ) (worker : ℕ) {step : Step} → NoneHolds (worker_refusals arena worker) →
     turn_of (worker_at arena worker) (suc worker) (seen_by arena (worker_at arena worker)) ≡ Ok step →
-    (turn_on arena worker ≡ Err BrokenCount) ↔ BadCount (nodes_of arena) (stored_in arena) (worker_at arena worker).stage
+    (turn_on arena worker ≡ Err BrokenCount) ↔ BadCount (nodes_of arena) (stored_of arena) (worker_at arena worker).stage
 unfolding turn_on counted
 count_refused arena worker {step} none done = (λ e. bad.0 (go miscounting refl (sym comes ∙ e)), λ e. comes ∙ ap decided (bad.1 e))
   where
@@ -132,10 +124,10 @@ count_refused arena worker {step} none done = (λ e. bad.0 (go miscounting refl 
     w = worker_at arena worker
 
     miscounting : Bool
-    miscounting = miscounts (nodes_of arena) (stored_in arena) (growth_at w.stage)
+    miscounting = miscounts (nodes_of arena) (stored_of arena) (growth_at w.stage)
 
-    bad : (miscounting ≡ true) ↔ BadCount (nodes_of arena) (stored_in arena) w.stage
-    bad = bad_count (nodes_of arena) (stored_in arena) w.stage
+    bad : (miscounting ≡ true) ↔ BadCount (nodes_of arena) (stored_of arena) w.stage
+    bad = bad_count (nodes_of arena) (stored_of arena) w.stage
 
     decided : Bool → Result Step Refusal
     decided broken = cond broken (Err BrokenCount) (Ok step)
@@ -147,7 +139,7 @@ count_refused arena worker {step} none done = (λ e. bad.0 (go miscounting refl 
     comes =
         none_accepts (worker_refusals arena worker) Err _ none
         ∙ ap (counted arena) done
-        ∙ ap (λ g. decided (miscounts (nodes_of arena) (stored_in arena) g)) grows
+        ∙ ap (λ g. decided (miscounts (nodes_of arena) (stored_of arena) g)) grows
 
     go : (broken : Bool) → miscounting ≡ broken → decided broken ≡ Err BrokenCount → miscounting ≡ true
     go true is e = is
@@ -158,7 +150,7 @@ pub record Accepted (arena : List ℕ) (worker : ℕ) (step : Step) : Type 0 whe
   pub header : Header arena
   pub known : worker < workers_of arena
   pub done : turn_of (worker_at arena worker) (suc worker) (seen_by arena (worker_at arena worker)) ≡ Ok step
-  pub counts : miscounts (nodes_of arena) (stored_in arena) step.growth ≡ false
+  pub counts : miscounts (nodes_of arena) (stored_of arena) step.growth ≡ false
 
 pub turn_accepted : (arena : List ℕ) (worker : ℕ) {step : Step} → turn_on arena worker ≡ Ok step → Accepted arena worker step
 unfolding turn_on worker_refusals
@@ -184,27 +176,23 @@ one_more_fits arena worker {step} e =
       arith,
       effect_before arena step.effect stored_at (omega (arith, header.from)),
       header.few_stored,
-      most_few (layout_of arena) (nodes_of arena),
       header.good,
     )
 
 -- after it the count is as its step says
 pub turn_counts : (arena : List ℕ) (worker : ℕ) {step : Step} → turn_on arena worker ≡ Ok step →
-    stored_in (turn_arena arena worker) ≡ count_after step.growth (stored_in arena)
+    stored_of (turn_arena arena worker) ≡ grown step.growth (stored_of arena)
 unfolding turn_arena
 turn_counts arena worker {step} e =
-    let header = (turn_accepted arena worker e).header in
-    let written = others_stay (with_changes arena step) worker step.worker in
     rw e
-    ((λ i. cond (has_count (written 0 (inl (omega arith)) i)) (Some (written stored_at (inl (omega arith)) i)) None)
-    ∙ changes_count arena step header)
+    (others_stay (with_changes arena step) worker step.worker stored_at (inl (omega arith))
+    ∙ changes_count arena step (turn_accepted arena worker e).header)
 
 -- and within its ends
 pub turn_fits : (arena : List ℕ) (worker : ℕ) {step : Step} → turn_on arena worker ≡ Ok step → CountFits arena step.growth
-turn_fits arena worker {step} e has =
-    let it = turn_accepted arena worker e in go step.growth (rw has at it.counts) (rw has at it.header.few_stored)
+turn_fits arena worker {step} e = let it = turn_accepted arena worker e in go step.growth it.counts it.header.few_stored
   where
-    go : (g : Growth) → miscounts (nodes_of arena) (Some (stored_of arena)) g ≡ false → stored_of arena ≤ nodes_of arena - 2 →
+    go : (g : Growth) → miscounts (nodes_of arena) (stored_of arena) g ≡ false → stored_of arena ≤ nodes_of arena - 2 →
         grown g (stored_of arena) ≤ nodes_of arena - 2
     go Stays may few = few
     go OneMore may few = omega (arith, eqb-false (stored_of arena) (nodes_of arena - 2) may)

@@ -1,8 +1,7 @@
 -- What is claimed of the search and of a turn on an arena, in document 01's words. `FreeLaws`, `TurnLaws` and `InsideLaws` have the proofs.
-use Rattle.std.specs.Prelude.{ℕ, ◌-◌, ◌<◌, ◌≤◌, ◌≡◌, ◌≢◌, ◌⊎◌, ◌↔◌, length, Option, Some, None}
+use Rattle.std.specs.Prelude.{ℕ, ◌-◌, ◌<◌, ◌≤◌, ◌≡◌, ◌≢◌, ◌⊎◌, ◌↔◌, length}
 use mathlib.Core.List.{List, Memᴰ}
 use Rattle.worker.specs.Report.{answer_number}
-use Rattle.worker.specs.Stages.{grown}
 use Rattle.worker.specs.declared.Worker.{Worker}
 use Rattle.worker.specs.declared.report.Answer.TheVariants.{Full}
 use Rattle.worker.specs.declared.report.Step.{Step}
@@ -10,7 +9,7 @@ use Rattle.worker.specs.declared.report.Effect.{Effect}
 use Rattle.worker.specs.declared.report.Effect.TheVariants.{Nothing, SetOwner, SetNext, SetMark, Fill}
 use Rattle.worker.specs.declared.report.Growth.{Growth}
 use Rattle.worker.specs.declared.report.Growth.TheVariants.{Stays, OneMore, OneLess}
-use Rattle.words.specs.Layout.{layout_of, workers_of, nodes_of, stored_at, node_width, nodes_from, total_of, node_from, node_next, node_mark, node_owner}
+use Rattle.words.specs.Layout.{workers_of, nodes_of, stored_at, node_width, nodes_from, total_of, node_from, node_next, node_mark, node_owner}
 use Rattle.words.specs.Records.{Outside}
 use Rattle.arena.specs.Lists.{Pairs}
 use Rattle.lazy.specs.Free.{IsFree}
@@ -48,7 +47,7 @@ Touches arena Nothing at = ⊥
 Touches arena (SetOwner node owner) at = at ≡ node_from arena node node_owner
 Touches arena (SetNext node next) at = at ≡ node_from arena node node_next
 Touches arena (SetMark node) at = at ≡ node_from arena node node_mark
-Touches arena (Fill node key next length) at = (field : ℕ) × (field < node_width (layout_of arena)) × (at ≡ node_from arena node field)
+Touches arena (Fill node key next length) at = (field : ℕ) × (field < node_width) × (at ≡ node_from arena node field)
 
 -- and the place of the count, where a step changes it
 abbrev pub Recounts : Growth → ℕ → Type 0
@@ -56,14 +55,9 @@ Recounts Stays at = ⊥
 Recounts OneMore at = at ≡ stored_at
 Recounts OneLess at = at ≡ stored_at
 
--- the count, if there is one, after such a change (`TurnLaws.turn_counts`)
-abbrev pub count_after : Growth → Option ℕ → Option ℕ
-count_after growth None = None
-count_after growth (Some stored) = Some (grown growth stored)
-
 -- document 02's words on a broken count: stage 16 on a count of 0, and stage 15 on a count of N less 2 (`TurnLaws.count_refused`)
-abbrev pub BadCount : ℕ → Option ℕ → ℕ → Type 0
-BadCount nodes stored stage = ((stage ≡ 16) × (stored ≡ Some 0)) ⊎ ((stage ≡ 15) × (stored ≡ Some (nodes - 2)))
+abbrev pub BadCount : ℕ → ℕ → ℕ → Type 0
+BadCount nodes stored stage = ((stage ≡ 16) × (stored ≡ 0)) ⊎ ((stage ≡ 15) × (stored ≡ nodes - 2))
 
 -- a place that no turn of a worker writes: in the header, but for its count; in another worker's record; or past the total
 -- (`InsideLaws.turn_inside`)

@@ -1,6 +1,11 @@
--- The row that the search keeps: for each node, whether it was reached so far.
+-- What the search reads, a node's next word, and the row that it keeps: for each node, whether it was reached so far.
 use Rattle.std.specs.Prelude.{ℕ, ◌+◌, ◌≤◌, ◌<◌, ◌≡◌, List, Bool, true, false, ◌&&◌, ◌||◌, length, get_or, replicate}
+use Rattle.words.specs.Records.{node_at}
 use Rattle.lazy.specs.Free.{passing, reached}
+
+-- the next word of a node, in the part of an arena that holds the node records
+abbrev pub next_at : List ℕ → ℕ → ℕ
+next_at nodes node = (node_at nodes node).next
 
 -- a row holds a node: it was reached
 abbrev pub holds : List Bool → ℕ → Bool

@@ -1,5 +1,5 @@
 -- A worker's turn on an arena (document 01: give a worker a turn).
-use Rattle.std.specs.Prelude.{ℕ, suc, ◌-◌, List, [], ◌∷◌, ◌++◌, Bool, false, cond, set, leb, eqb, Option, Some, None, Result, Ok, Err}
+use Rattle.std.specs.Prelude.{ℕ, suc, List, [], ◌∷◌, ◌++◌, Bool, false, cond, set, leb, eqb, None, Result, Ok, Err}
 use Rattle.worker.specs.Node.{new_node}
 use Rattle.worker.specs.Refusals.{Test, judged}
 use Rattle.worker.specs.declared.refusal.Refusal.TheVariants.{NoSuchWorker, BrokenCount}
@@ -16,10 +16,11 @@ use Rattle.worker.specs.declared.report.Effect.{Effect}
 use Rattle.worker.specs.declared.report.Effect.TheVariants as effect
 use Rattle.worker.specs.declared.report.Growth.{Growth}
 use Rattle.worker.specs.declared.report.Growth.TheVariants as growth
-use Rattle.words.specs.Layout.{layout_of, workers_of, nodes_of, stored_of, stored_in, has_count, stored_at, node_width, node_next, node_mark, node_owner, node_part, node_from}
-use Rattle.words.specs.Records.{worker_at, with_worker, with_node, node_at}
+use Rattle.words.specs.Layout.{workers_of, nodes_of, stored_of, stored_at, most_stored, node_next, node_mark, node_owner, node_from}
+use Rattle.words.specs.Records.{worker_at, with_worker, with_node}
 use Rattle.words.specs.Replies.{Reply, reply}
 use Rattle.words.specs.Header.{header_refusals}
+use Rattle.arena.specs.Sets.{node_in}
 use Rattle.lazy.specs.Free.{roots_of, lowest_free}
 
 -- of a turn that is done the report is told
@@ -39,37 +40,31 @@ seen_of workers worker_count node count w =
 
 -- of an arena
 unfoldable pub seen_by : List ℕ → Worker → Seen
-seen_by arena w =
-    seen_of (worker_at arena) (workers_of arena) (node_at (node_width (layout_of arena)) (node_part arena)) (nodes_of arena) w
+seen_by arena w = seen_of (worker_at arena) (workers_of arena) (node_in arena) (nodes_of arena) w
 
--- short board: 1, odd header: 2, no such worker: 3
+-- short board: 1, odd header: 2, old layout: 12, no such worker: 3
 unfoldable pub worker_refusals : List ℕ → ℕ → List Test
 worker_refusals arena worker = header_refusals arena ++ (leb (workers_of arena) worker, NoSuchWorker) ∷ []
 
--- the count, if there is one, is this number
-abbrev pub is_stored : ℕ → Option ℕ → Bool
-is_stored number None = false
-is_stored number (Some stored) = eqb stored number
-
 -- a count that cannot change so: one less than 0, and one more than N less 2 (document 02, A6: stages 16 and 15)
-abbrev pub miscounts : ℕ → Option ℕ → Growth → Bool
+abbrev pub miscounts : ℕ → ℕ → Growth → Bool
 miscounts nodes stored growth.Stays = false
-miscounts nodes stored growth.OneMore = is_stored (nodes - 2) stored
-miscounts nodes stored growth.OneLess = is_stored 0 stored
+miscounts nodes stored growth.OneMore = eqb stored (most_stored nodes)
+miscounts nodes stored growth.OneLess = eqb stored 0
 
 -- a turn whose change of the count cannot be is refused: 14
 unfoldable pub counted : List ℕ → Result Step Refusal → Result Step Refusal
-counted arena (Ok step) = cond (miscounts (nodes_of arena) (stored_in arena) step.growth) (Err BrokenCount) (Ok step)
+counted arena (Ok step) = cond (miscounts (nodes_of arena) (stored_of arena) step.growth) (Err BrokenCount) (Ok step)
 counted arena (Err refusal) = Err refusal
 
--- the turn of a worker, whose owner word is its number + 1; order: 1, 2, 3, then the turn's own 6, 7, and 14
+-- the turn of a worker, whose owner word is its number + 1; order: 1, 2, 12, 3, then the turn's own 6, 7, and 14
 unfoldable pub turn_on : List ℕ → ℕ → Result Step Refusal
 turn_on arena worker =
     let w = worker_at arena worker in
     judged (worker_refusals arena worker) Err (counted arena (turn_of w (suc worker) (seen_by arena w)))
 
--- the arena with an effect: owner of a node := o; next of a node := s; mark of a node := 1; a node written as e, c, 0, 0 and, in layout 2,
--- the length
+-- the arena with an effect: owner of a node := o; next of a node := s; mark of a node := 1; a node written as e, c, 0, 0 and the
+-- length
 unfoldable pub with_effect : List ℕ → Effect → List ℕ
 with_effect arena effect.Nothing = arena
 with_effect arena (effect.SetOwner node owner) = set arena (node_from arena node node_owner) owner
@@ -77,13 +72,9 @@ with_effect arena (effect.SetNext node next) = set arena (node_from arena node n
 with_effect arena (effect.SetMark node) = set arena (node_from arena node node_mark) 1
 with_effect arena (effect.Fill node key next length) = with_node arena node (new_node key next length)
 
--- the arena with another count, where its header has one (document 02, A6)
-unfoldable pub with_count : List ℕ → ℕ → List ℕ
-with_count arena stored = cond (has_count (layout_of arena)) (set arena stored_at stored) arena
-
--- and with a change of it
+-- the arena with a change of the count (document 02, A6)
 unfoldable pub with_growth : List ℕ → Growth → List ℕ
-with_growth arena growth = with_count arena (grown growth (stored_of arena))
+with_growth arena growth = set arena stored_at (grown growth (stored_of arena))
 
 -- what a step does to the nodes and to the count
 abbrev pub with_changes : List ℕ → Step → List ℕ

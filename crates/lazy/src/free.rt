@@ -1,10 +1,9 @@
 // The search for a free node: reach every node that a root leads to, and take the lowest that was not reached.
 ghost use Rattle.std.specs.Prelude.{◌+◌, ◌≤◌, ◌<◌, ◌≡◌, [], ◌∷◌, length};
 ghost use Rattle.words.specs.Layout.{nodes_of};
-ghost use Rattle.words.specs.Records.{next_at};
 ghost use Rattle.lazy.specs.Free.{lowest_from};
 ghost use Rattle.lazy.specs.FindFree.{found_in};
-ghost use Rattle.lazy.specs.Row.{holds, held, AllHeld, four_held, empty_row, Closed, Reaches};
+ghost use Rattle.lazy.specs.Row.{next_at, holds, held, AllHeld, four_held, empty_row, Closed, Reaches};
 
 use crate::Found;
 use words::{Arena, Nodes, layout};
@@ -43,9 +42,9 @@ fn search_with(reached: &mut [bool], arena: Arena) -> Found
 // of it is read again. The row and the count are no struct: the check covers no fact beside a lent row, and without it a struct says no more.
 fn reach_from(reached: &mut [bool], nodes: Nodes, root: u16, reads: u16) -> u16
     requires places { length reached.old ≡ nodes.count }
-    requires so_far { Closed (next_at nodes.width nodes.words.now) nodes.count reached.old
+    requires so_far { Closed (next_at nodes.words.now) nodes.count reached.old
         × (reads ≡ held nodes.count reached.old) }
-    ensures walked { Reaches (next_at nodes.entry.width nodes.entry.words.now) nodes.entry.count (root ∷ [])
+    ensures walked { Reaches (next_at nodes.entry.words.now) nodes.entry.count (root ∷ [])
         reached.old reached.new }
     ensures counted { result ≡ held nodes.entry.count reached.new }
 {
@@ -66,9 +65,9 @@ fn reach_from(reached: &mut [bool], nodes: Nodes, root: u16, reads: u16) -> u16
 // The same from the three roots that a worker holds.
 fn reach_worker(reached: &mut [bool], nodes: Nodes, worker: Worker, reads: u16) -> u16
     requires places { length reached.old ≡ nodes.count }
-    requires so_far { Closed (next_at nodes.width nodes.words.now) nodes.count reached.old
+    requires so_far { Closed (next_at nodes.words.now) nodes.count reached.old
         × (reads ≡ held nodes.count reached.old) }
-    ensures walked { Reaches (next_at nodes.entry.width nodes.entry.words.now) nodes.entry.count
+    ensures walked { Reaches (next_at nodes.entry.words.now) nodes.entry.count
         (worker.pred ∷ worker.curr ∷ worker.spare ∷ []) reached.old reached.new }
     ensures counted { result ≡ held nodes.entry.count reached.new }
 {
@@ -80,9 +79,9 @@ fn reach_worker(reached: &mut [bool], nodes: Nodes, worker: Worker, reads: u16) 
 // Reads a node's next word. The search reads none anywhere else.
 fn next_of(nodes: Nodes, node: usize) -> u16
     requires { node < nodes.count }
-    ensures { result ≡ next_at nodes.entry.width nodes.entry.words.now node }
+    ensures { result ≡ next_at nodes.entry.words.now node }
 {
-    nodes.words[layout::slot(nodes.width, node as u16, layout::NODE_NEXT)]
+    nodes.words[layout::slot(node as u16, layout::NODE_NEXT)]
 }
 
 // The lowest node that was not reached.

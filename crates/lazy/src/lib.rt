@@ -3,12 +3,12 @@
 
 ghost use Rattle.std.specs.Prelude.{◌<◌, ◌≡◌};
 ghost use Rattle.worker.specs.Report.{report_values};
-ghost use Rattle.words.specs.Layout.{nodes_of, stored_of, stored_in};
+ghost use Rattle.words.specs.Layout.{nodes_of, stored_of};
 ghost use Rattle.words.specs.Records.{node_at};
 ghost use Rattle.words.specs.Replies.{reply};
 ghost use Rattle.lazy.specs.FindFree.{found_values, find_free_answer};
 ghost use Rattle.lazy.specs.Sight.{looks_at_pred, looks_at_curr, looked_at, sight};
-ghost use Rattle.lazy.specs.Turn.{seen_by, is_stored, miscounts, counted, turn_on, with_effect, with_count, with_growth, with_changes, turn_answer, turn_arena};
+ghost use Rattle.lazy.specs.Turn.{seen_by, miscounts, counted, turn_on, with_effect, with_growth, with_changes, turn_answer, turn_arena};
 
 use words::{Arena, Nodes, layout, put, records, word};
 use worker::{Effect, Growth, Node, Refusal, Report, Seen, Step, Worker};
@@ -68,21 +68,12 @@ fn counted(arena: Arena, turn: Result<Step, Refusal>) -> Result<Step, Refusal>
 
 // One label more than there is room for, or one less than none.
 fn miscounts(arena: Arena, growth: Growth) -> bool
-    ensures { result ≡ miscounts (nodes_of arena.entry.words.now) (stored_in arena.entry.words.now) growth }
+    ensures { result ≡ miscounts (nodes_of arena.entry.words.now) (stored_of arena.entry.words.now) growth }
 {
     match growth {
         Growth::Stays => false,
-        Growth::OneMore => is_stored(arena.nodes().count.saturating_sub(2), arena.stored()),
-        Growth::OneLess => is_stored(0, arena.stored()),
-    }
-}
-
-fn is_stored(number: u16, stored: Option<u16>) -> bool
-    ensures { result ≡ is_stored number stored }
-{
-    match stored {
-        None => false,
-        Some(stored) => stored == number,
+        Growth::OneMore => arena.stored() == arena.nodes().count.saturating_sub(2),
+        Growth::OneLess => arena.stored() == 0,
     }
 }
 
@@ -106,7 +97,7 @@ fn see(arena: Arena, state: Worker) -> Seen
 // The node pred, for the stages that look at its next, owner or mark; an unused one for the others, as in the definition. Not one function with
 // the next: it would be given which stages look, by two functions more.
 fn look_at_pred(nodes: Nodes, state: Worker) -> Node
-    ensures { result ≡ looked_at (looks_at_pred state.stage) (node_at nodes.entry.width nodes.entry.words.now state.pred) }
+    ensures { result ≡ looked_at (looks_at_pred state.stage) (node_at nodes.entry.words.now state.pred) }
 {
     let stage = state.stage;
     match stage {
@@ -117,7 +108,7 @@ fn look_at_pred(nodes: Nodes, state: Worker) -> Node
 
 // The node curr, for the stages that look at its key; at its next; at its owner or mark.
 fn look_at_curr(nodes: Nodes, state: Worker) -> Node
-    ensures { result ≡ looked_at (looks_at_curr state.stage) (node_at nodes.entry.width nodes.entry.words.now state.curr) }
+    ensures { result ≡ looked_at (looks_at_curr state.stage) (node_at nodes.entry.words.now state.curr) }
 {
     let stage = state.stage;
     match stage {
@@ -165,16 +156,7 @@ fn apply_growth(arena: &mut [u16], growth: Growth)
     let stored = word(arena, layout::STORED_AT);
     match growth {
         Growth::Stays => {}
-        Growth::OneMore => write_count(arena, stored + 1),
-        Growth::OneLess => write_count(arena, stored.saturating_sub(1)),
-    }
-}
-
-#[tactic(auto, unfolding(crate::specs::Turn::with_count))]
-fn write_count(arena: &mut [u16], stored: u16)
-    ensures { arena.new ≡ with_count arena.old stored }
-{
-    if layout::has_count(word(arena, layout::LAYOUT_AT)) {
-        put(arena, layout::STORED_AT, stored);
+        Growth::OneMore => put(arena, layout::STORED_AT, stored + 1),
+        Growth::OneLess => put(arena, layout::STORED_AT, stored.saturating_sub(1)),
     }
 }

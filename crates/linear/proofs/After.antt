@@ -22,7 +22,6 @@ pub record Places (nodes : ℕ) (s : State) (w : ℕ) (step : Step) : Type 0 whe
 -- what the others see of a step of worker w
 pub record View (nodes : ℕ) (s t : State) (w : ℕ) : Type 0 where
   pub others : (v : ℕ) → v ≢ w → t.worker v ≡ s.worker v
-  pub kind : t.lengths ≡ s.lengths
   pub labels : (n : ℕ) → Live nodes s n → (t.key n ≡ s.key n) × (t.length n ≡ s.length n)
   pub touched : (n : ℕ) → Live nodes s n →
       ((t.next n ≡ s.next n) × (t.mark n ≡ s.mark n)) ⊎ ((s.owner n ≡ suc w) × Holds (s.worker w) n)
@@ -84,7 +83,6 @@ module _ {nodes : ℕ} {s : State} (inv : Inv nodes s) (w : ℕ) {step : Step} (
   view_after =
       record {
         others = others_after;
-        kind = refl;
         labels = λ n l. label_after inv w act l;
         touched = λ n l. touched_after inv w act l;
         taken = λ n l. owner_after inv w act l;

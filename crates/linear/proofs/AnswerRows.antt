@@ -19,7 +19,7 @@ use Rattle.worker.specs.declared.report.Effect.TheVariants.{SetNext, SetMark, Fi
 use Rattle.worker.specs.declared.report.Growth.TheVariants.{OneMore, OneLess}
 use Rattle.linear.specs.History.{is_decision}
 use Rattle.linear.proofs.Reach.{here}
-use Rattle.linear.proofs.State.{State, kept_length, shape_of, stepped}
+use Rattle.linear.proofs.State.{State, shape_of, stepped}
 use Rattle.linear.proofs.Promises.{Holds, in_pred, in_curr, in_spare, Live, Private, Neighbours, Gap, promises}
 use Rattle.linear.proofs.Invariant.{In, Inv, Range, promised, sane_at, live_held, live_next, live_chain, live_tail, on_chain, not_head, not_tail, absent, nothing_ahead, ahead_next}
 use Rattle.linear.proofs.Effects.{Known, old, top, link, Act, quiet, fills, links, marks, at_node, off_node, two_nodes}
@@ -159,8 +159,8 @@ module _ {nodes : ℕ} {s : State} (inv : Inv nodes s) (me : ℕ) where
           has_next = at_node x x w.curr _ refl;
           has_mark = at_node x x 0 _ refl;
           has_length =
-              at_node x x (kept_length s w.length) _ refl
-              ∙ ap (λ (r : Worker). kept_length s r.length) (sym (own_after inv me fill fill_places));
+              at_node x x w.length _ refl
+              ∙ ap (λ (r : Worker). r.length) (sym (own_after inv me fill fill_places));
         })
         (sane_at inv me at (omega arith)) (record { busy = omega arith; operation = refl; key = refl; length = refl }) refl
         (rw (eqb-true w.answer 0 q.2)) refl (λ later. absurd (omega arith))

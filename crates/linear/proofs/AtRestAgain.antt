@@ -20,7 +20,7 @@ use Rattle.linear.proofs.Owners.{owners_at}
 use Rattle.linear.proofs.Counting.{counted}
 
 module _ (r : Schedule) (time : ℕ) (all : AllIdle (arena r time)) where
-  abbrev here : Sound r.layout r.workers r.nodes (arena r time)
+  abbrev here : Sound r.workers r.nodes (arena r time)
   here = sound r time
 
   abbrev shape : Nodes r.nodes (state r time)
@@ -44,15 +44,17 @@ module _ (r : Schedule) (time : ℕ) (all : AllIdle (arena r time)) where
   at_rest =
       record {
         header = none_accepts (header_refusals (arena r time)) refusing (accepted []) here.none;
-        head_key = shape.head_key;
-        tail_key = shape.tail_key;
-        tail_next = shape.tail_next;
-        inside = rw here.nodes_are shape.inside;
-        small = λ n there. shape.small n;
-        unowned = λ n there. unowned_then n;
-        rises = λ n on. shape.rises n (live_chain (chain_run on));
-        idle = λ v known. all_rest r time v known (all v known);
-        counted = counted r time _;
+        nodes = record {
+          head_key = shape.head_key;
+          tail_key = shape.tail_key;
+          tail_next = shape.tail_next;
+          inside = rw here.nodes_are shape.inside;
+          small = λ n there. shape.small n;
+          unowned = λ n there. unowned_then n;
+          rises = λ n on. shape.rises n (live_chain (chain_run on));
+        };
+        workers = λ v known. all_rest r time v known (all v known);
+        counted = counted r time;
       }
 
 pub at_rest_again : (r : Schedule) → AtRestAgain r.initial r.entries

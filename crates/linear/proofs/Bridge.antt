@@ -18,7 +18,7 @@ use Rattle.worker.specs.declared.report.Step.{Step}
 use Rattle.worker.specs.declared.report.Growth.TheVariants.{Stays}
 use Rattle.std.specs.Prelude.{Result, Ok, Err}
 use Rattle.worker.proofs.RefusalLaws.{NoneHolds, judged_keeps, judged_append, none_accepts}
-use Rattle.words.specs.Layout.{layout_of, workers_of, nodes_of, stored_in}
+use Rattle.words.specs.Layout.{workers_of, nodes_of, stored_of}
 use Rattle.words.specs.Records.{worker_at, with_worker}
 use Rattle.words.specs.Replies.{Reply, refused, accepted, replied}
 use Rattle.words.specs.Header.{header_refusals}
@@ -36,16 +36,15 @@ use Rattle.linear.specs.Entries.{is_turn, Event, call_started, turn_reported, en
 use Rattle.linear.proofs.State.{State, decode, stepped, start_step, seen_in, turn_step}
 use Rattle.linear.proofs.Stepped.{stepped_arena, known_record, header_stays, none_stays, state_steps}
 
--- an arena of a layout with W workers and N nodes whose header is in order
-pub record Sound (layout workers nodes : ℕ) (arena : List ℕ) : Type 0 where
+-- an arena with W workers and N nodes whose header is in order
+pub record Sound (workers nodes : ℕ) (arena : List ℕ) : Type 0 where
   pub none : NoneHolds (header_refusals arena)
-  pub layout_is : layout_of arena ≡ layout
   pub workers_are : workers_of arena ≡ workers
   pub nodes_are : nodes_of arena ≡ nodes
 
 -- so its counts are in range
-pub sound_counts : {layout workers nodes : ℕ} {arena : List ℕ} → Sound layout workers nodes arena → Counts layout workers nodes
-sound_counts {arena = arena} sound = rw (sound.layout_is, sound.workers_are, sound.nodes_are) at (header_of arena sound.none).good
+pub sound_counts : {workers nodes : ℕ} {arena : List ℕ} → Sound workers nodes arena → Counts workers nodes
+sound_counts {arena = arena} sound = rw (sound.workers_are, sound.nodes_are) at (header_of arena sound.none).good
 
 -- whether a worker's turn would take the count past its ends
 abbrev pub miscounting : ℕ → ℕ → State → ℕ → Bool
@@ -56,7 +55,7 @@ pub data Entered (workers nodes : ℕ) (arena : List ℕ) (entry : Entry) : Type
   refuses : (refusal : Refusal) → event_of arena entry ≡ entry_refused refusal → after arena entry ≡ arena →
       (is_turn entry ≡ true → (refusal ≡ NoSuchWorker) ⊎ (miscounting workers nodes (decode arena) entry.worker ≡ true)) → Entered workers nodes arena entry
   starts : event_of arena entry ≡ call_started → is_turn entry ≡ false → entry.worker < workers →
-      ((decode arena).worker entry.worker).stage ≡ 0 → is_call (decode arena).lengths entry.act entry.key entry.length ≡ true →
+      ((decode arena).worker entry.worker).stage ≡ 0 → is_call entry.act entry.key entry.length ≡ true →
       decode (after arena entry) ≡ stepped (decode arena) entry.worker (start_step entry.act entry.key entry.length) →
       Entered workers nodes arena entry
   turns : event_of arena entry ≡ turn_reported (turn_step workers nodes (decode arena) entry.worker).report → is_turn entry ≡ true →
@@ -78,7 +77,7 @@ unfolding with_effect
 start_writes arena w operation key length =
     ap (λ (words : List ℕ). with_worker words w (started_worker operation key length)) (count_stays arena)
 
-module _ {layout workers nodes : ℕ} {arena : List ℕ} (sound : Sound layout workers nodes arena) where
+module _ {workers nodes : ℕ} {arena : List ℕ} (sound : Sound workers nodes arena) where
   -- the record of a worker that there is
   own_record : (w : ℕ) → w < workers → (decode arena).worker w ≡ worker_at arena w
   own_record w known = known_record arena w (omega (arith, sound.workers_are))
@@ -116,7 +115,7 @@ module _ {layout workers nodes : ℕ} {arena : List ℕ} (sound : Sound layout w
       (ap (counted arena)
       ((λ i. turn_of (sym (own_record w known) i) (suc w) (sym (seen_same w known) i))
       ∙ none_accepts (turn_refusals ((decode arena).worker w) (seen_in workers nodes (decode arena) w)) Err _ passes)
-      ∙ (λ i. cond (miscounts (sound.nodes_are i) (stored_in arena) (turn_step workers nodes (decode arena) w).growth) (Err BrokenCount)
+      ∙ (λ i. cond (miscounts (sound.nodes_are i) (stored_of arena) (turn_step workers nodes (decode arena) w).growth) (Err BrokenCount)
       (Ok (turn_step workers nodes (decode arena) w))))
 
   -- an entry that is the turn of such a worker, where the count does not refuse it either
@@ -145,7 +144,7 @@ module _ {layout workers nodes : ℕ} {arena : List ℕ} (sound : Sound layout w
 
   -- a start leaves the count as it is
   start_fits : (operation key length : ℕ) → CountFits arena (start_step operation key length).growth
-  start_fits operation key length has = rw has at (header_of arena sound.none).few_stored
+  start_fits operation key length = (header_of arena sound.none).few_stored
 
   -- an entry that is a start
   enters_start : (entry : Entry) → is_turn entry ≡ false → Entered workers nodes arena entry
@@ -164,7 +163,7 @@ module _ {layout workers nodes : ℕ} {arena : List ℕ} (sound : Sound layout w
           (rw start (judged_numbered refusals [] (λ refusal. arena) _ e)) (λ turn. absurd (true≢false (sym turn ∙ start)))
       go (accepted values) e =
           let step = start_step entry.act entry.key entry.length in
-          let call = (none_holds refusals [] e).1.1 in
+          let call = (none_holds refusals [] e).1.1.1 in
           let there = leb-false (workers_of arena) w call.0 in
           let known : w < workers = omega (arith, sound.workers_are) in
           let idle = eqb-true (worker_at arena w).stage 0 (not-false _ call.1.1.0) in
@@ -175,10 +174,10 @@ module _ {layout workers nodes : ℕ} {arena : List ℕ} (sound : Sound layout w
           (ap decode writes ∙ state_steps arena sound.none w step (start_fits entry.act entry.key entry.length) there tt)
 
 -- where no worker's record and no link would make a turn refused, every entry is one of these
-pub entered : {layout workers nodes : ℕ} {arena : List ℕ} → Sound layout workers nodes arena →
+pub entered : {workers nodes : ℕ} {arena : List ℕ} → Sound workers nodes arena →
     ((w : ℕ) → w < workers → NoneHolds (turn_refusals ((decode arena).worker w) (seen_in workers nodes (decode arena) w))) →
     (entry : Entry) → Entered workers nodes arena entry
-entered {layout} {workers} {nodes} {arena} sound passes entry = go (is_turn entry) refl
+entered {workers} {nodes} {arena} sound passes entry = go (is_turn entry) refl
   where
     go : (t : Bool) → is_turn entry ≡ t → Entered workers nodes arena entry
     go true turn =
@@ -216,13 +215,12 @@ after_keeps P arena entry stays writes still = go (is_turn entry)
         (subst P (start_writes arena w entry.act entry.key entry.length) (writes (start_step entry.act entry.key entry.length) still))
 
 -- an entry of any kind leaves the header in order
-pub after_sound : {layout workers nodes : ℕ} {arena : List ℕ} → Sound layout workers nodes arena → (entry : Entry) →
-    Sound layout workers nodes (after arena entry)
-after_sound {layout} {workers} {nodes} {arena} sound entry =
-    after_keeps (Sound layout workers nodes) arena entry sound
+pub after_sound : {workers nodes : ℕ} {arena : List ℕ} → Sound workers nodes arena → (entry : Entry) →
+    Sound workers nodes (after arena entry)
+after_sound {workers} {nodes} {arena} sound entry =
+    after_keeps (Sound workers nodes) arena entry sound
     (λ step fits. record {
       none = none_stays arena sound.none entry.worker step fits;
-      layout_is = header_stays arena sound.none entry.worker step fits 0 (omega arith) (omega arith) ∙ sound.layout_is;
       workers_are = header_stays arena sound.none entry.worker step fits 1 (omega arith) (omega arith) ∙ sound.workers_are;
       nodes_are = header_stays arena sound.none entry.worker step fits 2 (omega arith) (omega arith) ∙ sound.nodes_are;
     })

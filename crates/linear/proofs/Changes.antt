@@ -7,7 +7,7 @@ use Rattle.worker.specs.declared.report.Step.{Step}
 use Rattle.worker.specs.declared.report.Effect.{Effect}
 use Rattle.words.specs.Layout.{node_mark}
 use Rattle.linear.proofs.Reach.{Reach, here, same?}
-use Rattle.linear.proofs.State.{State, kept_length, shape_of, word_after, stepped}
+use Rattle.linear.proofs.State.{State, shape_of, word_after, stepped}
 use Rattle.linear.proofs.Promises.{in_pred, in_curr, in_spare, Live, PredStays, Filled, Hit}
 use Rattle.linear.proofs.Invariant.{In, Ahead, Inv, Range, live_held, live_chain, not_head, not_tail, once, absent, on_chain}
 use Rattle.linear.proofs.Effects.{Act, quiet, owns, fills, links, marks, unlinks, at_node, off_node, label_after, key_after, run_after, chain_before, dead_after, linked}
@@ -147,7 +147,7 @@ module _ {nodes : ℕ} {s : State} (inv : Inv nodes s) (w : ℕ) (step : Step) (
   -- where a key is added, the new node has it, and what nodes keep of its length
   new_label : Adds act →
       ((stepped s w step).key (s.worker w).spare ≡ (s.worker w).key)
-      × ((stepped s w step).length (s.worker w).spare ≡ kept_length s (s.worker w).length)
+      × ((stepped s w step).length (s.worker w).spare ≡ (s.worker w).length)
   new_label k =
       let new = (linking act k).0 in
       let label = label_after inv w act (live_held w (in_spare refl) new.spare_in) in
@@ -240,7 +240,7 @@ module _ {nodes : ℕ} {s : State} (inv : Inv nodes s) (w : ℕ) (step : Step) (
 
   -- and a key that is added has what nodes keep of its length
   pub length_added : Adds act → (j : In (stepped s w step) (s.worker w).key) →
-      (stepped s w step).length j.node ≡ kept_length s (s.worker w).length
+      (stepped s w step).length j.node ≡ (s.worker w).length
   length_added k j =
       ⊎_elim (λ chain. absurd ((adds_key k).0 (before j chain))) (λ new. ap (stepped s w step).length new.1 ∙ (new_label k).1)
       (chain_before inv w act j.chain)

@@ -1,34 +1,31 @@
--- In layout 2 the count is the size of the set at every time, so no turn would take it past its ends.
+-- The count is the size of the set at every time, so no turn would take it past its ends.
 use Prim.Native.Nat.{ℕ, zero, suc, ◌-◌}
 use mathlib.Core.Path.{◌≡◌, refl, sym, ap, ◌∙◌}
 use mathlib.Core.Logic.{◌≢◌}
-use mathlib.Core.List.{List}
+use mathlib.Core.List.{List, [], ◌∷◌}
 use mathlib.Core.Bool.{false}
 use native.Mathlib.Omega.{arith}
 use lib.ListN.{length}
 use borrow.Author.Tests.{ne_eqb}
-use Rattle.std.specs.Prelude.{Option, Some, None}
 use Rattle.worker.specs.Stages.{grown}
 use Rattle.worker.specs.declared.Worker.{Worker}
 use Rattle.worker.specs.declared.report.Growth.{Growth}
 use Rattle.worker.specs.declared.report.Growth.TheVariants.{Stays}
 use Rattle.worker.proofs.RefusalLaws.{none_accepts}
-use Rattle.words.specs.Layout.{nodes_of, stored_of, stored_in}
+use Rattle.words.specs.Layout.{nodes_of, stored_of}
 use Rattle.words.specs.Replies.{accepted, refusing}
 use Rattle.words.specs.Header.{header_refusals}
 use Rattle.arena.specs.Sets.{set_of, OnChain}
-use Rattle.arena.specs.Stored.{stored_values, stored_answer}
+use Rattle.arena.specs.Stored.{stored_answer}
 use Rattle.arena.specs.declared.chain.Label.{Label}
 use Rattle.arena.proofs.SetLaws.{set_rises}
 use Rattle.arena.proofs.ShortChains.{set_fewer}
-use Rattle.lazy.specs.Turn.{is_stored}
-use Rattle.lazy.specs.Claims.{count_after}
 use Rattle.linear.specs.Sequential.{including, excluding}
 use Rattle.linear.specs.History.{arena_at}
 use Rattle.linear.specs.Linearizable.{ExactCounts}
 use Rattle.linear.proofs.LabelLaws.{labelled, rising_same, including_find, including_rises, including_length, excluding_find, excluding_rises, excluding_length, member_some}
 use Rattle.linear.proofs.Reach.{Reach, here, along}
-use Rattle.linear.proofs.State.{State, kept_length, decode}
+use Rattle.linear.proofs.State.{State}
 use Rattle.linear.proofs.Bridge.{miscounting}
 use Rattle.linear.proofs.Promises.{Live, Private}
 use Rattle.linear.proofs.Invariant.{Inv, live_chain, live_next}
@@ -37,22 +34,6 @@ use Rattle.linear.proofs.Course.{Grows, as_kept, as_added, as_taken, Row}
 use Rattle.linear.proofs.Members.{chain_run}
 use Rattle.linear.proofs.Timeline.{label, Happens, nothing, start, turn, sound, always, happens, row_of, step_at, Schedule, arena, state, entry}
 use Rattle.linear.proofs.Keys.{in_present, has_added, has_taken, label_kept, label_added, label_taken, label_started}
-
--- where the set stays, so does the count
-count_kept : (stored : Option ℕ) → count_after Stays stored ≡ stored
-count_kept None = refl
-count_kept (Some stored) = refl
-
--- a count that there is after a change was there before it
-from_count : (growth : Growth) (before : Option ℕ) {stored : ℕ} → Some stored ≡ count_after growth before →
-    (n : ℕ) × (before ≡ Some n) × (stored ≡ grown growth n)
-from_count growth None e = let z : ◌≡◌ {A = ℕ} 0 1 = cc in absurd (omega arith)
-from_count growth (Some n) {stored} e = let same : stored ≡ grown growth n = cc in (n, refl, same)
-
--- a count that is not this number
-not_counted : (number : ℕ) (stored : Option ℕ) → ((n : ℕ) → stored ≡ Some n → n ≢ number) → is_stored number stored ≡ false
-not_counted number None other = refl
-not_counted number (Some n) other = ne_eqb n number (other n refl)
 
 module _ (r : Schedule) where
   abbrev set_at : ℕ → List Label
@@ -64,7 +45,7 @@ module _ (r : Schedule) where
   -- what an entry does to the count it does to the size of the set
   record Grown (time : ℕ) : Type 0 where
     growth : Growth
-    stored : (state r (suc time)).stored ≡ count_after growth (state r time).stored
+    stored : (state r (suc time)).stored ≡ grown growth (state r time).stored
     sizes : size (suc time) ≡ grown growth (size time)
 
   -- the set stays where all that is found in it does
@@ -78,7 +59,7 @@ module _ (r : Schedule) where
       go (nothing unstarted unreported unfinished same) =
           record {
             growth = Stays;
-            stored = ap (λ words. (decode words).stored) same ∙ sym (count_kept (state r time).stored);
+            stored = ap stored_of same;
             sizes = ap (λ words. length (set_of words)) same;
           }
       go (start event idle call known next) =
@@ -103,7 +84,7 @@ module _ (r : Schedule) where
           sized : Grows row.act step.growth → size (suc time) ≡ grown step.growth (size time)
           sized (as_kept keeps e) = rw e (set_kept time (label_kept r time w step row.act next keeps))
           sized (as_added adds e) =
-              let new = labelled own (kept_length (state r time) ((state r time).worker w).length) in
+              let new = labelled own ((state r time).worker w).length in
               let absent = (has_added r time w step row.act next adds).0 in
               rw e
               (ap length (rising_same (set_at (suc time)) (including new (set_at time)) (set_rises (arena r (suc time)))
@@ -117,14 +98,11 @@ module _ (r : Schedule) where
               (λ key. label_taken r time w step row.act next takes key ∙ sym (excluding_find own (set_at time) key))) in
               rw e (omega (arith, less, excluding_length own (set_at time) (set_rises (arena r time)) there))
 
-  -- so at every time the count, if there is one, is the size
-  pub counted : (time : ℕ) (stored : ℕ) → (state r time).stored ≡ Some stored → stored ≡ size time
+  -- so at every time the count is the size
+  pub counted : (time : ℕ) → (state r time).stored ≡ size time
   unfolding arena_at
-  counted zero stored e = r.rest.counted e
-  counted (suc time) stored e =
-      let by = grown_at time in
-      let was = from_count by.growth (state r time).stored (sym e ∙ by.stored) in
-      was.2 ∙ ap (grown by.growth) (counted time was.0 was.1) ∙ sym by.sizes
+  counted zero = r.rest.counted
+  counted (suc time) = let by = grown_at time in by.stored ∙ ap (grown by.growth) (counted time) ∙ sym by.sizes
 
   -- so no turn would take it past its ends: where a key is added there is a new node that is not on the chain, and where one is taken it is there
   pub counts_true : (time w : ℕ) → miscounting r.workers r.nodes (state r time) w ≡ false
@@ -161,17 +139,15 @@ module _ (r : Schedule) where
 
       go : Grows row.act (step_at r time w).growth → miscounting r.workers r.nodes (state r time) w ≡ false
       go (as_kept keeps e) = rw e
-      go (as_added adds e) = rw e (not_counted (r.nodes - 2) (state r time).stored (λ n is all. room_left adds (sym (counted time n is) ∙ all)))
-      go (as_taken takes e) = rw e (not_counted 0 (state r time).stored (λ n is none. some_stored takes (sym (counted time n is) ∙ none)))
+      go (as_added adds e) = rw (e, counted time) (ne_eqb (size time) (r.nodes - 2) (room_left adds))
+      go (as_taken takes e) = rw (e, counted time) (ne_eqb (size time) 0 (some_stored takes))
 
   -- and what the header says is the size of the set, and is answered
   pub counts_exact : ExactCounts r.initial r.entries
   unfolding stored_answer
-  counts_exact time two =
-      let now = arena r time in
-      let told : stored_in now ≡ Some (stored_of now) = rw two in
-      let same = counted time (stored_of now) told in (
-        same,
-        none_accepts (header_refusals now) refusing (accepted (stored_values (stored_in now))) (sound r time).none
-            ∙ ap (λ stored. accepted (stored_values stored)) (told ∙ ap Some same),
+  counts_exact time =
+      let now = arena r time in (
+        counted time,
+        none_accepts (header_refusals now) refusing (accepted (stored_of now ∷ [])) (sound r time).none
+            ∙ ap (λ stored. accepted (stored ∷ [])) (counted time),
       )

@@ -8,9 +8,9 @@ use lib.Dec.{eqb}
 use borrow.Author.Tests.{eq-eqb, ne_eqb}
 use Rattle.worker.specs.declared.report.Effect.{Effect}
 use Rattle.worker.specs.declared.report.Effect.TheVariants.{Nothing, SetOwner, SetNext, SetMark, Fill}
-use Rattle.words.specs.Layout.{node_key, node_next, node_mark, node_owner}
+use Rattle.words.specs.Layout.{node_key, node_next, node_mark, node_owner, node_length}
 use Rattle.linear.proofs.Reach.{Reach, here, on, join, carry, same?, Skip, skip, skip_back}
-use Rattle.linear.proofs.State.{State, shape_of, word_after, length_after}
+use Rattle.linear.proofs.State.{State, shape_of, word_after}
 use Rattle.linear.proofs.Promises.{Holds, in_pred, in_curr, in_spare, Live, Searching, Found, Gap, Filled, Hit, Bypassed}
 use Rattle.linear.proofs.Invariant.{Inv, Range, live_held, live_next, live_chain, not_tail, on_chain}
 
@@ -81,7 +81,7 @@ module _ {nodes : ℕ} {s : State} (inv : Inv nodes s) (w : ℕ) where
 
   -- a live node keeps its key and its length
   pub label_after : {e : Effect} → Act nodes s w e → {n : ℕ} → Live nodes s n →
-      (word_after e n node_key (s.key n) ≡ s.key n) × (length_after s.lengths e n (s.length n) ≡ s.length n)
+      (word_after e n node_key (s.key n) ≡ s.key n) × (word_after e n node_length (s.length n) ≡ s.length n)
   label_after (quiet c) l = (refl, refl)
   label_after (owns c o) l = (refl, refl)
   label_after (marks c r f) l = (refl, refl)

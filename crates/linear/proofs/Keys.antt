@@ -11,7 +11,7 @@ use borrow.Author.Tests.{eqb-true, eqb-false}
 use Rattle.worker.specs.declared.report.Step.{Step}
 use Rattle.arena.specs.Sets.{is_none, set_of}
 use Rattle.linear.proofs.LabelLaws.{member_find, absent_find}
-use Rattle.linear.proofs.State.{State, kept_length, decode, stepped, start_step}
+use Rattle.linear.proofs.State.{State, decode, stepped, start_step}
 use Rattle.linear.proofs.Promises.{Live}
 use Rattle.linear.proofs.Invariant.{In, Ahead, Inv}
 use Rattle.linear.proofs.Effects.{Act, quiet}
@@ -129,14 +129,14 @@ module _ (r : Schedule) where
     label_kept keeps key = label_same key (has_kept keeps key)
 
     pub label_added : Adds act → (key : ℕ) → label r (suc time) key
-        ≡ cond (eqb key ((state r time).worker w).key) (some (kept_length (state r time) ((state r time).worker w).length)) (label r time key)
+        ≡ cond (eqb key ((state r time).worker w).key) (some ((state r time).worker w).length) (label r time key)
     label_added adds key = by (eqb key own) refl
       where
         own : ℕ
         own = ((state r time).worker w).key
 
         by : (is : Bool) → eqb key own ≡ is →
-            label r (suc time) key ≡ cond is (some (kept_length (state r time) ((state r time).worker w).length)) (label r time key)
+            label r (suc time) key ≡ cond is (some ((state r time).worker w).length) (label r time key)
         by true e =
             let j = (adds_key inv w step act adds).1 in
             ap (label r (suc time)) (eqb-true key own e) ∙ found_next own j ∙ ap some (length_added inv w step act adds j)

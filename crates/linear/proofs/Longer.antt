@@ -22,23 +22,22 @@ use Rattle.worker.specs.declared.Worker.{Worker}
 use Rattle.worker.specs.declared.report.Growth.{Growth}
 use Rattle.worker.specs.declared.report.Effect.{Effect}
 use Rattle.worker.specs.declared.report.Effect.TheVariants.{Nothing, SetOwner, SetNext, SetMark, Fill}
-use Rattle.std.specs.Prelude.{Some, None, Result, Ok, Err}
+use Rattle.std.specs.Prelude.{Result, Ok, Err}
 use Rattle.worker.proofs.RefusalLaws.{NoneHolds, judged_append, none_accepts}
 use Rattle.worker.proofs.EffectLaws.{EffectBelow}
-use Rattle.words.specs.Layout.{word, header_width, worker_from, node_width, layout_of, workers_of, nodes_of, nodes_from_of, stored_of, stored_in, has_count, stored_at, total_of, node_part, node_from, node_key, node_next, node_mark, node_owner}
+use Rattle.words.specs.Layout.{word, header_width, worker_from, node_width, workers_of, nodes_of, nodes_from_of, stored_of, stored_at, total_of, node_part, node_from, node_key, node_next, node_mark, node_owner, node_length}
 use Rattle.words.specs.Records.{worker_at, worker_words, with_worker, node_words, with_node, node_at}
 use Rattle.words.specs.Replies.{Reply, refused, accepted, refusing, replied}
 use Rattle.words.specs.Header.{header_refusals}
-use Rattle.words.proofs.Bounds.{wide, narrow}
 use Rattle.words.proofs.HeaderLaws.{Header, header_of}
 use Rattle.words.proofs.Judged.{none_holds, judged_numbered, judged_accepted}
-use Rattle.words.proofs.RecordLaws.{node_long, record_words}
+use Rattle.words.proofs.RecordLaws.{record_words}
 use Rattle.words.proofs.Runs.{sets_front}
 use Rattle.words.specs.declared.entry.Entry.{Entry}
 use Rattle.arena.specs.Sets.{chain_labels, node_in, set_of}
 use Rattle.arena.specs.AtRest.{SoundAtRest}
 use Rattle.arena.specs.Start.{call_refusals, start_refusals, start_arena}
-use Rattle.lazy.specs.Turn.{outcome_of, seen_of, seen_by, miscounts, counted, turn_on, with_effect, with_count, with_growth, with_changes, turned_arena, turn_arena}
+use Rattle.lazy.specs.Turn.{outcome_of, seen_of, seen_by, miscounts, counted, turn_on, with_effect, with_growth, with_changes, turned_arena, turn_arena}
 use Rattle.lazy.proofs.ChangeLaws.{effect_long, changes_long}
 use Rattle.lazy.proofs.TurnLaws.{turn_accepted}
 use Rattle.lazy.proofs.InsideLaws.{effect_below, field_inside}
@@ -69,14 +68,13 @@ module _ (arena more : List ℕ) (none : NoneHolds (header_refusals arena)) wher
       none_same arena longer same_header (rw length-append (omega arith))
       (rw (header_word stored_at (omega arith)) order.few_stored) none
 
-  sound_here : Sound (layout_of arena) (workers_of arena) (nodes_of arena) arena
-  sound_here = record { none = none; layout_is = refl; workers_are = refl; nodes_are = refl }
+  sound_here : Sound (workers_of arena) (nodes_of arena) arena
+  sound_here = record { none = none; workers_are = refl; nodes_are = refl }
 
-  sound_longer : Sound (layout_of arena) (workers_of arena) (nodes_of arena) (arena ++ more)
+  sound_longer : Sound (workers_of arena) (nodes_of arena) (arena ++ more)
   sound_longer =
       record {
         none = none_longer;
-        layout_is = header_word 0 (omega arith);
         workers_are = header_word 1 (omega arith);
         nodes_are = header_word 2 (omega arith);
       }
@@ -97,32 +95,22 @@ module _ (arena more : List ℕ) (none : NoneHolds (header_refusals arena)) wher
       ∙ ap (take count) (drop-append-le from arena more (omega (arith, order.whole, order.from, order.end)))
       ∙ take-append-le count (drop from arena) more (rw length-drop (omega (arith, order.whole, order.from, order.end)))
 
-  -- and the count
-  count_same : stored_in longer ≡ stored_in arena
-  count_same = λ i. cond (has_count (header_word 0 (omega arith) i)) (Some (header_word stored_at (omega arith) i)) None
-
   -- and the set, so it is still sound and at rest
   node_same : node_in longer ≡ node_in arena
-  node_same = λ i. node_at (node_width (header_word 0 (omega arith) i)) (part_same i)
+  node_same = ap node_at part_same
 
   pub set_same : set_of (arena ++ more) ≡ set_of arena
   unfolding set_of
-  set_same = λ i. chain_labels (node_width (header_word 0 (omega arith) i)) (part_same i) (header_word 2 (omega arith) i)
+  set_same = λ i. chain_labels (node_same i) (header_word 2 (omega arith) i)
 
   pub rests_longer : SoundAtRest arena → SoundAtRest (arena ++ more)
   rests_longer rest =
       let nodes = header_word 2 (omega arith) in
       record {
         header = none_accepts (header_refusals longer) refusing (accepted []) none_longer;
-        head_key = rw node_same rest.head_key;
-        tail_key = rw node_same rest.tail_key;
-        tail_next = rw node_same rest.tail_next;
-        inside = rw (node_same, nodes) rest.inside;
-        small = rw (node_same, nodes) rest.small;
-        unowned = rw (node_same, nodes) rest.unowned;
-        rises = rw (node_same, nodes) rest.rises;
-        idle = λ v there. let known : v < workers_of arena = omega (arith, header_word 1 (omega arith)) in record_same v known ∙ rest.idle v known;
-        counted = rw (count_same, set_same) rest.counted;
+        nodes = rw (node_same, nodes) rest.nodes;
+        workers = λ v there. let known : v < workers_of arena = omega (arith, header_word 1 (omega arith)) in record_same v known ∙ rest.workers v known;
+        counted = rw (header_word stored_at (omega arith), set_same) rest.counted;
       }
 
   -- so a turn sees the same, and is the same
@@ -131,7 +119,6 @@ module _ (arena more : List ℕ) (none : NoneHolds (header_refusals arena)) wher
   seen_same w =
       rw (
         part_same,
-        header_word 0 (omega arith),
         header_word 1 (omega arith),
         header_word 2 (omega arith),
         roots_same (worker_at longer) (worker_at arena) (workers_of arena) record_same,
@@ -141,7 +128,7 @@ module _ (arena more : List ℕ) (none : NoneHolds (header_refusals arena)) wher
   unfolding counted
   counted_same (Err refusal) = refl
   counted_same (Ok step) =
-      λ i. cond (miscounts (header_word 2 (omega arith) i) (count_same i) step.growth) (Err BrokenCount) (Ok step)
+      λ i. cond (miscounts (header_word 2 (omega arith) i) (header_word stored_at (omega arith) i) step.growth) (Err BrokenCount) (Ok step)
 
   turn_same : (w : ℕ) → turn_on longer w ≡ turn_on arena w
   turn_same w =
@@ -155,7 +142,7 @@ module _ (arena more : List ℕ) (none : NoneHolds (header_refusals arena)) wher
       ]
 
   -- it writes at the same places, all before the further words
-  field_longer : (node field value : ℕ) → node < nodes_of arena → field < node_width (layout_of arena) →
+  field_longer : (node field value : ℕ) → node < nodes_of arena → field < node_width →
       set longer (node_from longer node field) value ≡ set arena (node_from arena node field) value ++ more
   field_longer node field value below fits =
       let inside = field_inside arena node field order below fits in
@@ -165,30 +152,21 @@ module _ (arena more : List ℕ) (none : NoneHolds (header_refusals arena)) wher
   effect_longer : (e : Effect) → EffectBelow (nodes_of arena) e → with_effect longer e ≡ with_effect arena e ++ more
   unfolding with_effect with_node node_from
   effect_longer Nothing below = refl
-  effect_longer (SetOwner node owner) below = field_longer node node_owner owner below (omega (arith, wide order.good))
-  effect_longer (SetNext node next) below = field_longer node node_next next below (omega (arith, wide order.good))
-  effect_longer (SetMark node) below = field_longer node node_mark 1 below (omega (arith, wide order.good))
+  effect_longer (SetOwner node owner) below = field_longer node node_owner owner below (omega arith)
+  effect_longer (SetNext node next) below = field_longer node node_next next below (omega arith)
+  effect_longer (SetMark node) below = field_longer node node_mark 1 below (omega arith)
   effect_longer (Fill node key next length) below =
-      let filled = new_node key next length in
-      let width = node_width (layout_of arena) in
-      let last = field_inside arena node (width - 1) order below (omega (arith, wide order.good)) in
-      (λ i. sets longer (place_same arena longer same_header node node_key i) (node_words (node_width (header_word 0 (omega arith) i)) filled))
-      ∙ sets_front (node_words width filled) arena more (node_from arena node node_key)
-      (omega (arith, order.whole, node_long width filled (narrow (layout_of arena)), wide order.good))
+      let last = field_inside arena node node_length order below (omega arith) in
+      let filled = node_words (new_node key next length) in
+      ap (λ at. sets longer at filled) (place_same arena longer same_header node node_key)
+      ∙ sets_front filled arena more (node_from arena node node_key) (omega (arith, order.whole))
 
   -- and its count too
   growth_longer : (words : List ℕ) (g : Growth) → header_width ≤ length words → with_growth (words ++ more) g ≡ with_growth words g ++ more
-  unfolding with_growth with_count
+  unfolding with_growth
   growth_longer words g long =
-      (λ i.
-      cond (has_count (get_or-append words more 0 0 (omega arith) i))
-      (set (words ++ more) stored_at (grown g (get_or-append words more 0 stored_at (omega arith) i))) (words ++ more))
-      ∙ go (has_count (layout_of words))
-    where
-      go : (counts : Bool) → cond counts (set (words ++ more) stored_at (grown g (stored_of words))) (words ++ more)
-          ≡ cond counts (set words stored_at (grown g (stored_of words))) words ++ more
-      go true = set-append_left words more stored_at (grown g (stored_of words)) (omega arith)
-      go false = refl
+      ap (λ stored. set (words ++ more) stored_at (grown g stored)) (get_or-append words more 0 stored_at (omega arith))
+      ∙ set-append_left words more stored_at (grown g (stored_of words)) (omega arith)
 
   record_longer : (words : List ℕ) (w : ℕ) (to : Worker) → length words ≡ length arena → w < workers_of arena →
       with_worker (words ++ more) w to ≡ with_worker words w to ++ more
@@ -215,8 +193,8 @@ module _ (arena more : List ℕ) (none : NoneHolds (header_refusals arena)) wher
     unfolding call_refusals
     call_judged refuse accept =
         elim (dec_lt w (workers_of arena)) [
-          | yes known ↦ rw (record_same w known, header_word 0 (omega arith), header_word 1 (omega arith))
-          | no unknown ↦ rw (header_word 0 (omega arith), header_word 1 (omega arith), le-leb (workers_of arena) w (omega arith))
+          | yes known ↦ rw (record_same w known, header_word 1 (omega arith))
+          | no unknown ↦ rw (header_word 1 (omega arith), le-leb (workers_of arena) w (omega arith))
         ]
 
     start_judged : {A : Type 0} (refuse : Refusal → A) (accept : A) →
@@ -246,7 +224,7 @@ module _ (arena more : List ℕ) (none : NoneHolds (header_refusals arena)) wher
             judged_numbered refusals [] (λ refusal. longer) _ e
             ∙ ap (λ words. words ++ more) (sym (judged_numbered refusals [] (λ refusal. arena) _ e))
         go (accepted values) e =
-            let known = leb-false (workers_of arena) w (none_holds refusals [] e).1.1.0 in
+            let known = leb-false (workers_of arena) w (none_holds refusals [] e).1.1.1.0 in
             judged_accepted refusals [] (λ refusal. longer) _ e
             ∙ record_longer arena w started refl known
             ∙ ap (λ words. words ++ more) (sym (judged_accepted refusals [] (λ refusal. arena) _ e))

@@ -29,7 +29,7 @@ use Rattle.linear.proofs.Preserved.{row_inv}
 use Rattle.linear.proofs.Passes.{passes}
 
 -- a state whose nodes stay as they are, and a worker's look-up of a key
-module _ (layout workers nodes : ℕ) (s : State) (inv : Inv nodes s) (w key : ℕ) (known : w < workers) (range : Range key) where
+module _ (workers nodes : ℕ) (s : State) (inv : Inv nodes s) (w key : ℕ) (known : w < workers) (range : Range key) where
   -- the worker's record, and the arena that its turn leaves
   abbrev me : List ℕ → Worker
   me arena = (decode arena).worker w
@@ -39,7 +39,7 @@ module _ (layout workers nodes : ℕ) (s : State) (inv : Inv nodes s) (w key : �
 
   -- it stands at a stage and at a node, and the nodes are as they were
   pub record Looks (arena : List ℕ) (stage curr : ℕ) : Type 0 where
-    pub sound : Sound layout workers nodes arena
+    pub sound : Sound workers nodes arena
     pub holds : Inv nodes (decode arena)
     pub same : shape_of (decode arena) ≡ shape_of s
     pub at : (me arena).stage ≡ stage

@@ -10,7 +10,7 @@ use native.Mathlib.Omega.{arith}
 use Rattle.worker.specs.Node.{head, tail}
 use Rattle.words.specs.Layout.{nodes_of}
 use Rattle.arena.specs.declared.chain.Label.{Label}
-use Rattle.arena.specs.Sets.{member, ChainWhole, set_of, OnChain, top, link, InSet}
+use Rattle.arena.specs.Sets.{member, node_in, ChainWhole, set_of, OnChain, top, link, InSet}
 use Rattle.arena.proofs.SetLaws.{chain_below, chain_whole, set_rises, set_members}
 use Rattle.linear.proofs.LabelLaws.{find, labelled, member_find, present_find, from_find, in_find}
 use Rattle.linear.proofs.Reach.{Reach, here, one_more, along}
@@ -31,14 +31,14 @@ run_chain {next} {count} some inside loops r = along (OnChain next count) onward
     onward : (n : ℕ) → OnChain next count n → OnChain next count (next n)
     onward n on = elim (ℕ_discrete n tail) [ yes e ↦ rw (e, loops) (rw e at on) | no more ↦ link on more (inside n (chain_below on)) ]
 
-module _ {layout workers nodes : ℕ} {arena : List ℕ} (sound : Sound layout workers nodes arena) (inv : Inv nodes (decode arena)) where
+module _ {workers nodes : ℕ} {arena : List ℕ} (sound : Sound workers nodes arena) (inv : Inv nodes (decode arena)) where
   -- there is a Head
   some : head < nodes_of arena
   some = omega (arith, inv.shape.room, sound.nodes_are)
 
   -- the chain is whole, since its keys rise to Tail
   pub whole : ChainWhole arena
-  whole = chain_whole arena some rises inv.shape.small
+  whole = chain_whole (node_in arena) (nodes_of arena) rises (λ n there. inv.shape.small n) some
     where
       rises : (n : ℕ) → OnChain (decode arena).next (nodes_of arena) n → n ≢ tail →
           ((decode arena).next n < nodes_of arena) × ((decode arena).key n < (decode arena).key ((decode arena).next n))

@@ -15,12 +15,12 @@ use Rattle.worker.specs.declared.Worker.{Worker}
 use Rattle.worker.specs.declared.report.Answer.TheVariants.{No}
 use Rattle.worker.specs.declared.report.Report.{Report}
 use Rattle.worker.specs.declared.report.Step.{Step}
-use Rattle.worker.proofs.Laws.{range_bounds, call_length}
+use Rattle.worker.proofs.Laws.{range_bounds}
 use Rattle.arena.specs.Sets.{is_none}
 use Rattle.linear.specs.Entries.{call_started, turn_reported, is_reported, is_finished}
 use Rattle.linear.specs.History.{is_decision, finishes_at, decides_at}
 use Rattle.linear.proofs.Reach.{here, same?}
-use Rattle.linear.proofs.State.{State, kept_length, decode, stepped, start_step}
+use Rattle.linear.proofs.State.{State, decode, stepped, start_step}
 use Rattle.linear.proofs.Promises.{in_curr, Live, promises}
 use Rattle.linear.proofs.Invariant.{In, Ahead, Inv, promised, live_held, live_chain}
 use Rattle.linear.proofs.After.{own_after, others_after, live_after}
@@ -28,7 +28,7 @@ use Rattle.linear.proofs.Course.{Row, moved_unfinished, spot, Onward, Continues,
 use Rattle.linear.proofs.TurnKinds.{sane_parts}
 use Rattle.linear.proofs.Passes.{stage_below}
 use Rattle.linear.proofs.Simulation.{Does, adds, adds_not, is_full, removes, removes_not, finds}
-use Rattle.linear.proofs.Timeline.{Begun, has, label, Happens, nothing, start, turn, own_worker, lengths_at, always, happens, Schedule, state, entry, outcome, decisive, finishing}
+use Rattle.linear.proofs.Timeline.{Begun, has, label, Happens, nothing, start, turn, own_worker, always, happens, Schedule, state, entry, outcome, decisive, finishing}
 use Rattle.linear.proofs.Keys.{present_in, in_present, absent_of, none_found, has_added, has_taken, label_kept, label_added, label_taken, ahead_on}
 
 -- a look-up stands on a live node
@@ -244,7 +244,7 @@ module _ (r : Schedule) where
 
       -- what a verdict comes to, of the worker's operation, key and length
       does : Verdict row.act step.worker →
-          Does (label r now) (label r (suc now)) before.operation before.key (kept_length (state r now) before.length) step.worker.answer
+          Does (label r now) (label r (suc now)) before.operation before.key before.length step.worker.answer
           ⊎ ((before.operation ≡ contains) × (step.worker.answer ≡ answer_number No) × (23 ≤ before.stage)
           × (Ahead (state r now) before.curr before.key → ⊥))
       does (goes_in it op answer) =
@@ -259,12 +259,6 @@ module _ (r : Schedule) where
       does (missing it out (inr is)) = inl (removes_not is.0 is.1 (is_absent out) (label_kept r now v step row.act next it))
       does (late it op answer stage out) = inr (op, answer, stage, out)
 
-      -- what nodes keep of the length is what the start carried
-      carried : Open now → kept_length (state r now) before.length ≡ length
-      carried o =
-          let same : (state r now).lengths ≡ (state r origin).lengths = lengths_at r now ∙ sym (lengths_at r origin) in
-          rw (o.same_length, same) (call_length (state r origin).lengths operation key length b.call)
-
       settled_now : Open now → (22 ≤ before.stage → Sight now (spot before)) → Verdict row.act step.worker → Settled now
       settled_now o look verdict =
           ⊎_elim
@@ -276,9 +270,9 @@ module _ (r : Schedule) where
           (look (omega (arith, it.2)))))
           (does verdict)
         where
-          of_call : Does (label r now) (label r (suc now)) before.operation before.key (kept_length (state r now) before.length)
+          of_call : Does (label r now) (label r (suc now)) before.operation before.key before.length
               step.worker.answer → Does (label r now) (label r (suc now)) operation key length step.worker.answer
-          of_call it = rw (← o.same_operation, ← o.same_key, ← carried o) it
+          of_call it = rw (← o.same_operation, ← o.same_key, ← o.same_length) it
 
       -- the turn decides the answer of a call that runs
       pub decided_now : Open now → None (decisive r v) now →

@@ -103,9 +103,9 @@ update operation e d =
     let bounds = range_bounds add contains operation e in in_range add remove operation bounds.0 (omega arith)
 
 module _ {nodes : ℕ} {s : State} (inv : Inv nodes s) (w operation key length : ℕ) (idle : (s.worker w).stage ≡ 0)
-    (call : is_call s.lengths operation key length ≡ true) where
-  known : (within add contains operation ≡ true) × (is_key key ≡ true) × (carries s.lengths operation key length ≡ true)
-  known = call_parts s.lengths operation key length call
+    (call : is_call operation key length ≡ true) where
+  known : (within add contains operation ≡ true) × (is_key key ≡ true) × (carries operation key length ≡ true)
+  known = call_parts operation key length call
 
   pub start_act : Act nodes s w (start_step operation key length).effect
   start_act = quiet (omega arith)

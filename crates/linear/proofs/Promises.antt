@@ -10,7 +10,7 @@ use Rattle.worker.specs.Worker.{within, is_key}
 use Rattle.worker.specs.Turn.{belongs}
 use Rattle.worker.specs.declared.Worker.{Worker}
 use Rattle.linear.proofs.Reach.{Reach}
-use Rattle.linear.proofs.State.{State, kept_length, Shape, shape_of}
+use Rattle.linear.proofs.State.{State, Shape, shape_of}
 
 -- a number that a worker's record holds
 pub data Holds (w : Worker) (n : ℕ) : Type 0 where
@@ -130,7 +130,7 @@ pub record Filled (nodes : ℕ) (s : State) (me e pred curr spare : ℕ) : Type 
   pub has_key : s.key spare ≡ e
   pub has_next : s.next spare ≡ curr
   pub has_mark : s.mark spare ≡ 0
-  pub has_length : s.length spare ≡ kept_length s (s.worker me).length
+  pub has_length : s.length spare ≡ (s.worker me).length
 
 -- of number of nodes, state, worker, key, pred, curr and spare
 abbrev pub Promise : Type 1

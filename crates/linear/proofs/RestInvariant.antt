@@ -8,7 +8,7 @@ use native.Mathlib.Decide.{dec_lt}
 use Rattle.worker.specs.Node.{head, tail}
 use Rattle.worker.specs.Worker.{idle_worker}
 use Rattle.worker.specs.declared.Node.{Node}
-use Rattle.words.specs.Layout.{layout_of, workers_of, nodes_of}
+use Rattle.words.specs.Layout.{workers_of, nodes_of}
 use Rattle.words.specs.Header.{header_refusals}
 use Rattle.words.proofs.Judged.{none_holds}
 use Rattle.arena.specs.AtRest.{SoundAtRest}
@@ -30,9 +30,9 @@ walk_to_tail (ended e) run = rw (← e) run
 walk_to_tail (passed more low above onward) run = walk_to_tail onward (one_more run)
 
 module _ {arena : List ℕ} (rest : SoundAtRest arena) where
-  pub rest_sound : Sound (layout_of arena) (workers_of arena) (nodes_of arena) arena
+  pub rest_sound : Sound (workers_of arena) (nodes_of arena) arena
   rest_sound =
-      record { none = none_holds (header_refusals arena) [] (sym rest.header); layout_is = refl; workers_are = refl; nodes_are = refl }
+      record { none = none_holds (header_refusals arena) [] (sym rest.header); workers_are = refl; nodes_are = refl }
 
   abbrev s : State
   s = decode arena
@@ -41,14 +41,14 @@ module _ {arena : List ℕ} (rest : SoundAtRest arena) where
   pub rest_unowned : (n : ℕ) → s.owner n ≡ 0
   rest_unowned n =
       elim (dec_lt n (nodes_of arena)) [
-        | yes there ↦ rest.unowned n there
+        | yes there ↦ rest.nodes.unowned n there
         | no gone ↦ ap (λ (node : Node). node.owner) (no_node_in arena (rest_header rest) n (omega arith))
       ]
 
   pub rest_idle : (v : ℕ) → s.worker v ≡ idle_worker
   rest_idle v =
       elim (dec_lt v (workers_of arena)) [
-        | yes there ↦ known_record arena v there ∙ rest.idle v there
+        | yes there ↦ known_record arena v there ∙ rest.workers v there
         | no gone ↦ no_record arena v (omega arith)
       ]
 
@@ -65,7 +65,7 @@ module _ {arena : List ℕ} (rest : SoundAtRest arena) where
       roots (held v h l) = absurd (omega (arith, idle_holds (rest_idle v) h, (rest_header rest).good))
 
   rises : (n : ℕ) → Live (nodes_of arena) s n → n ≢ tail → s.key n < s.key (s.next n)
-  rises n live = rest.rises n (run_chain (omega (arith, (rest_header rest).good)) rest.inside rest.tail_next (live_chained live))
+  rises n live = rest.nodes.rises n (run_chain (omega (arith, (rest_header rest).good)) rest.nodes.inside rest.nodes.tail_next (live_chained live))
 
   -- nothing is known of an idle worker
   idle_stands : (v : ℕ) → Standing (nodes_of arena) s v (s.worker v)
@@ -79,10 +79,10 @@ module _ {arena : List ℕ} (rest : SoundAtRest arena) where
         shape = record {
           room = omega (arith, (rest_header rest).good);
           cap = omega (arith, (rest_header rest).good);
-          head_key = rest.head_key;
-          tail_key = rest.tail_key;
-          tail_next = rest.tail_next;
-          inside = rest.inside;
+          head_key = rest.nodes.head_key;
+          tail_key = rest.nodes.tail_key;
+          tail_next = rest.nodes.tail_next;
+          inside = rest.nodes.inside;
           small = rest_small rest;
           rises = rises;
         };

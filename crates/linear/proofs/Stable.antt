@@ -168,7 +168,7 @@ module _ {nodes : ℕ} {s t : State} {w : ℕ} (view : View nodes s t w) (v : �
         has_key = label.0 ∙ f.has_key;
         has_next = kept.0 ∙ f.has_next;
         has_mark = kept.1 ∙ f.has_mark;
-        has_length = rw (view.others v other, view.kind) (label.1 ∙ f.has_length);
+        has_length = rw (view.others v other) (label.1 ∙ f.has_length);
       }
 
   -- every promise of the table is kept

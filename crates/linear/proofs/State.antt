@@ -1,10 +1,10 @@
 -- An arena, decoded: its nodes as a function for each field, and its workers. The proof speaks of these; only `decode` knows words.
 use Prim.Native.Nat.{ℕ, suc}
 use mathlib.Core.List.{List, [], ◌∷◌}
-use mathlib.Core.Bool.{Bool, cond}
+use mathlib.Core.Bool.{cond}
 use lib.Dec.{ltb, eqb}
 use Rattle.worker.specs.Worker.{idle_worker, started_worker}
-use Rattle.worker.specs.Stages.{reports, step_of}
+use Rattle.worker.specs.Stages.{reports, step_of, grown}
 use Rattle.worker.specs.declared.Node.{Node}
 use Rattle.worker.specs.declared.Worker.{Worker}
 use Rattle.worker.specs.declared.report.Report.TheVariants.{Idle}
@@ -12,12 +12,10 @@ use Rattle.worker.specs.declared.report.Seen.{Seen}
 use Rattle.worker.specs.declared.report.Step.{Step}
 use Rattle.worker.specs.declared.report.Effect.{Effect}
 use Rattle.worker.specs.declared.report.Effect.TheVariants.{Nothing, SetOwner, SetNext, SetMark, Fill}
-use Rattle.std.specs.Prelude.{Option}
-use Rattle.words.specs.Layout.{word, layout_of, workers_of, stored_in, node_width, node_key, node_next, node_mark, node_owner, has_length}
+use Rattle.words.specs.Layout.{word, workers_of, stored_of, node_key, node_next, node_mark, node_owner, node_length}
 use Rattle.words.specs.Records.{worker_at}
 use Rattle.arena.specs.Sets.{node_in}
 use Rattle.lazy.specs.Turn.{seen_of}
-use Rattle.lazy.specs.Claims.{count_after}
 
 pub record State : Type 0 where
   pub key : ℕ → ℕ
@@ -25,15 +23,9 @@ pub record State : Type 0 where
   pub mark : ℕ → ℕ
   pub owner : ℕ → ℕ
   pub length : ℕ → ℕ
-  -- whether nodes have a word for the length
-  pub lengths : Bool
-  -- the count of stored labels, if there is one
-  pub stored : Option ℕ
+  -- the count of stored labels
+  pub stored : ℕ
   pub worker : ℕ → Worker
-
--- what a node keeps of a length
-abbrev pub kept_length : State → ℕ → ℕ
-kept_length s length = cond s.lengths length 0
 
 -- the nodes alone, but for their lengths
 pub record Shape : Type 0 where
@@ -54,8 +46,7 @@ decode arena =
       mark = λ n. (node_in arena n).mark;
       owner = λ n. (node_in arena n).owner;
       length = λ n. (node_in arena n).length;
-      lengths = has_length (node_width (layout_of arena));
-      stored = stored_in arena;
+      stored = stored_of arena;
       worker = λ v. cond (ltb v (workers_of arena)) (worker_at arena v) idle_worker;
     }
 
@@ -70,14 +61,6 @@ word_after (SetNext n next) node field old = cond (eqb field node_next) (cond (e
 word_after (SetMark n) node field old = cond (eqb field node_mark) (cond (eqb node n) 1 old) old
 word_after (Fill n key next length) node field old = cond (eqb node n) (word (key ∷ next ∷ 0 ∷ 0 ∷ length ∷ []) field) old
 
--- and of a length, for which nodes may have no word
-abbrev pub length_after : Bool → Effect → ℕ → ℕ → ℕ
-length_after lengths Nothing node old = old
-length_after lengths (SetOwner n owner) node old = old
-length_after lengths (SetNext n next) node old = old
-length_after lengths (SetMark n) node old = old
-length_after lengths (Fill n key next length) node old = cond (eqb node n) (cond lengths length 0) old
-
 -- the state after a worker's step
 abbrev pub stepped : State → ℕ → Step → State
 stepped s w step =
@@ -86,9 +69,8 @@ stepped s w step =
       next = λ n. word_after step.effect n node_next (s.next n);
       mark = λ n. word_after step.effect n node_mark (s.mark n);
       owner = λ n. word_after step.effect n node_owner (s.owner n);
-      length = λ n. length_after s.lengths step.effect n (s.length n);
-      lengths = s.lengths;
-      stored = count_after step.growth s.stored;
+      length = λ n. word_after step.effect n node_length (s.length n);
+      stored = grown step.growth s.stored;
       worker = λ v. cond (eqb v w) step.worker (s.worker v);
     }
 

@@ -3,29 +3,27 @@ use Prim.Native.Nat.{ℕ, ◌+◌, ◌≤◌, ◌<◌}
 use mathlib.Core.Path.{◌≡◌, refl, sym, ap, ◌∙◌, fun_ext}
 use mathlib.Core.Logic.{inl, inr, ◌≢◌}
 use mathlib.Core.List.{List}
-use mathlib.Core.Bool.{Bool, true, false, cond}
 use native.Mathlib.Omega.{arith}
 use native.Mathlib.Decide.{ℕ_discrete, dec_lt}
 use lib.ListN.{length}
 use lib.Seq.{length-sets}
-use borrow.Author.Tests.{eq-eqb, ne_eqb, le-leb, lt-ltb, le-ltb, ltb-true}
+use borrow.Author.Tests.{eq-eqb, ne_eqb, le-leb, lt-ltb, le-ltb}
 use Rattle.worker.specs.Worker.{idle_worker}
+use Rattle.worker.specs.Stages.{grown}
 use Rattle.worker.specs.declared.report.Step.{Step}
-use Rattle.std.specs.Prelude.{Some, None, Ok}
+use Rattle.std.specs.Prelude.{Ok}
 use Rattle.worker.proofs.RefusalLaws.{NoneHolds}
 use Rattle.worker.proofs.EffectLaws.{EffectBelow}
-use Rattle.words.specs.Layout.{word, header_width, node_key, node_next, node_mark, node_owner, node_length, has_length, worker_from, node_width, slot, header_words, layout_of, workers_of, nodes_of, nodes_from_of, stored_of, stored_in, has_count, most_stored, stored_at, node_from, total_of}
+use Rattle.words.specs.Layout.{word, header_width, node_key, node_next, node_mark, node_owner, node_length, worker_from, node_width, slot, header_words, workers_of, nodes_of, nodes_from_of, stored_of, most_stored, stored_at, node_from, total_of}
 use Rattle.words.specs.Records.{worker_at, worker_words, with_worker, node_at, Outside}
 use Rattle.words.specs.Header.{is_header, header_refusals}
-use Rattle.words.proofs.Bounds.{wide}
-use Rattle.words.proofs.HeaderLaws.{Header, header_of}
+use Rattle.words.proofs.HeaderLaws.{Header, none_of, is_of, header_of}
 use Rattle.words.proofs.RecordLaws.{read_back, others_stay, record_words}
 use Rattle.lazy.specs.Turn.{with_effect, with_changes, turned_arena}
-use Rattle.lazy.specs.Claims.{count_after}
-use Rattle.lazy.proofs.ChangeLaws.{CountFits, growth_off, changes_long, changes_before, changes_count, changes_few}
+use Rattle.lazy.proofs.ChangeLaws.{CountFits, growth_off, changes_long, changes_before, changes_count}
 use Rattle.lazy.proofs.InsideLaws.{field_inside}
-use Rattle.linear.proofs.State.{decode, word_after, length_after, stepped}
-use Rattle.linear.proofs.Words.{field_in, field_word, no_field, effect_word, word_stays, length_word, no_length}
+use Rattle.linear.proofs.State.{decode, word_after, stepped}
+use Rattle.linear.proofs.Words.{field_in, field_word, no_field, effect_word, word_stays}
 
 -- decoded, a worker that there is has its record
 pub known_record : (arena : List ℕ) (v : ℕ) → v < workers_of arena → (decode arena).worker v ≡ worker_at arena v
@@ -38,32 +36,29 @@ no_record arena v gone = rw (le-ltb v (workers_of arena) gone)
 -- Another arena with the same words in its header, but for the count:
 module _ (arena other : List ℕ) (same : (at : ℕ) → at < header_width → at ≢ stored_at → word other at ≡ word arena at) where
   -- where it is long enough too, and its count within its ends, it passes the header test as well
-  pub none_same : length arena ≤ length other → stored_of other ≤ most_stored (layout_of arena) (nodes_of arena) →
-      NoneHolds (header_refusals arena) → NoneHolds (header_refusals other)
-  unfolding header_refusals is_header header_words
+  pub none_same : length arena ≤ length other → stored_of other ≤ most_stored (nodes_of arena) → NoneHolds (header_refusals arena) →
+      NoneHolds (header_refusals other)
+  unfolding is_header header_words
   none_same long few none =
       let order = header_of arena none in
-      let total = same 5 (omega arith) (omega arith) in (
-        rw (
-          le-ltb (length other) header_width (omega (arith, order.long)),
-          le-ltb (length other) (total_of other) (omega (arith, order.whole)),
-        ),
-        (
-          rw (
-            same 0 (omega arith) (omega arith),
-            same 1 (omega arith) (omega arith),
-            same 2 (omega arith) (omega arith),
-            same 3 (omega arith) (omega arith),
-            same 4 (omega arith) (omega arith),
-            same 5 (omega arith) (omega arith),
-            same 7 (omega arith) (omega arith),
-            le-leb (stored_of other) _ few,
-            eq-eqb (stored_of other) _ refl,
-          )
-              (rw (le-leb (stored_of arena) _ order.few_stored, eq-eqb (stored_of arena) _ refl) at none.1.0),
-          tt,
-        ),
+      let total = same 5 (omega arith) (omega arith) in
+      none_of other
+      (rw (
+        le-ltb (length other) header_width (omega (arith, order.long)),
+        le-ltb (length other) (total_of other) (omega (arith, order.whole)),
+      ))
+      (rw (
+        same 0 (omega arith) (omega arith),
+        same 1 (omega arith) (omega arith),
+        same 2 (omega arith) (omega arith),
+        same 3 (omega arith) (omega arith),
+        same 4 (omega arith) (omega arith),
+        same 5 (omega arith) (omega arith),
+        same 7 (omega arith) (omega arith),
+        le-leb (stored_of other) _ few,
+        eq-eqb (stored_of other) _ refl,
       )
+      (rw (le-leb (stored_of arena) _ order.few_stored, eq-eqb (stored_of arena) _ refl) at (is_of arena none)))
 
   -- decoded, a worker is the same where its record is
   worker_same : (v : ℕ) → (v < workers_of arena → worker_at other v ≡ worker_at arena v) → (decode other).worker v ≡ (decode arena).worker v
@@ -77,7 +72,7 @@ module _ (arena other : List ℕ) (same : (at : ℕ) → at < header_width → a
   -- a field of a node stands at the same place
   pub place_same : (node field : ℕ) → node_from other node field ≡ node_from arena node field
   unfolding node_from
-  place_same node field = λ i. same 4 (omega arith) (omega arith) i + slot (node_width (same 0 (omega arith) (omega arith) i)) node field
+  place_same node field = ap (λ from. from + slot node_width node field) (same 4 (omega arith) (omega arith))
 
 -- the arena after a worker's step
 abbrev pub stepped_arena : List ℕ → ℕ → Step → List ℕ
@@ -107,18 +102,13 @@ module _ (arena : List ℕ) (none : NoneHolds (header_refusals arena)) (worker :
   pub header_stays : (at : ℕ) → at < header_width → at ≢ stored_at → word (stepped_arena arena worker step) at ≡ word arena at
   header_stays at inside off = before_stays at (omega (arith, order.from)) off (inl (omega arith))
 
-  count_written : stored_of later ≡ stored_of (with_changes arena step)
-  count_written = others_stay (with_changes arena step) worker step.worker stored_at (inl (omega arith))
+  -- the count is as the step says
+  count_steps : stored_of later ≡ grown step.growth (stored_of arena)
+  count_steps = others_stay (with_changes arena step) worker step.worker stored_at (inl (omega arith)) ∙ changes_count arena step order
 
   -- so it is still in order
   pub none_stays : NoneHolds (header_refusals (stepped_arena arena worker step))
-  none_stays = none_same arena later header_stays (omega (arith, long_stays)) (rw count_written (changes_few arena step order fits)) none
-
-  -- and the count is as the step says
-  count_steps : stored_in later ≡ count_after step.growth (stored_in arena)
-  count_steps =
-      (λ i. cond (has_count (others_stay (with_changes arena step) worker step.worker 0 (inl (omega arith)) i)) (Some (count_written i)) None)
-      ∙ changes_count arena step order
+  none_stays = none_same arena later header_stays (omega (arith, long_stays)) (rw count_steps fits) none
 
   module _ (known : worker < workers_of arena) where
     -- the other workers' records stay
@@ -146,16 +136,15 @@ module _ (arena : List ℕ) (none : NoneHolds (header_refusals arena)) (worker :
 
     module _ (below : EffectBelow (nodes_of arena) step.effect) where
       -- a field of a node is as the effect says
-      field_steps : (n f : ℕ) → f < node_width (layout_of arena) → field_in later n f ≡ word_after step.effect n f (field_in arena n f)
+      field_steps : (n f : ℕ) → f < node_width → field_in later n f ≡ word_after step.effect n f (field_in arena n f)
       unfolding node_from
       field_steps n f room =
           let order_later = header_of later none_stays in
           let nodes : nodes_of later ≡ nodes_of arena = header_stays 2 (omega arith) (omega arith) in
-          let layout : layout_of later ≡ layout_of arena = header_stays 0 (omega arith) (omega arith) in
           elim (dec_lt n (nodes_of arena)) [
             | yes there ↦
                 let inside = field_inside arena n f order there room in
-                field_word later order_later n f (omega arith) (rw layout room)
+                field_word later order_later n f (omega arith) room
                 ∙ ap (word later) (place_same arena later header_stays n f)
                 ∙ others_stay (with_changes arena step) worker step.worker (node_from arena n f)
                 (inr (omega (arith, order.from)))
@@ -168,30 +157,16 @@ module _ (arena : List ℕ) (none : NoneHolds (header_refusals arena)) (worker :
                 ∙ ap (word_after step.effect n f) (sym (no_field arena order n f (omega arith)))
           ]
 
-      -- a length too, where nodes have one; where not, it is 0 before and after
-      length_steps : (n : ℕ) → (decode later).length n ≡ (stepped (decode arena) worker step).length n
-      unfolding node_at
-      length_steps n =
-          ap (λ layout. cond (has_length (node_width layout)) (field_in later n node_length) 0) (header_stays 0 (omega arith) (omega arith))
-          ∙ go (has_length (node_width (layout_of arena))) refl
-        where
-          go : (lengths : Bool) → has_length (node_width (layout_of arena)) ≡ lengths →
-              cond lengths (field_in later n node_length) 0
-              ≡ length_after lengths step.effect n (cond lengths (field_in arena n node_length) 0)
-          go true has = field_steps n node_length (ltb-true _ _ has) ∙ sym (length_word step.effect n (field_in arena n node_length))
-          go false has = sym (no_length step.effect n)
-
       -- the arena after the step, decoded, is the state after the step
       pub state_steps : decode (stepped_arena arena worker step) ≡ stepped (decode arena) worker step
       unfolding node_at
       state_steps =
           λ i. record {
-            key = fun_ext (λ n. field_steps n node_key (omega (arith, wide order.good))) i;
-            next = fun_ext (λ n. field_steps n node_next (omega (arith, wide order.good))) i;
-            mark = fun_ext (λ n. field_steps n node_mark (omega (arith, wide order.good))) i;
-            owner = fun_ext (λ n. field_steps n node_owner (omega (arith, wide order.good))) i;
-            length = fun_ext length_steps i;
-            lengths = has_length (node_width (header_stays 0 (omega arith) (omega arith) i));
+            key = fun_ext (λ n. field_steps n node_key (omega arith)) i;
+            next = fun_ext (λ n. field_steps n node_next (omega arith)) i;
+            mark = fun_ext (λ n. field_steps n node_mark (omega arith)) i;
+            owner = fun_ext (λ n. field_steps n node_owner (omega arith)) i;
+            length = fun_ext (λ n. field_steps n node_length (omega arith)) i;
             stored = count_steps i;
             worker = fun_ext worker_steps i;
           }

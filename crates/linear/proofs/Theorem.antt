@@ -99,36 +99,36 @@ module _ (r : Schedule) where
   sets_exact time =
       let unbroken_chain = whole (sound r time) (always r time) in (unbroken_chain, set_members (arena r time) unbroken_chain)
 
-module _ (layout workers nodes : ℕ) (entries : List Entry) (good : good_counts layout workers nodes ≡ true) where
+module _ (workers nodes : ℕ) (entries : List Entry) (good : good_counts workers nodes ≡ true) where
   abbrev fresh : Schedule
-  fresh = fresh_schedule layout workers nodes entries good
+  fresh = fresh_schedule workers nodes entries good
 
   -- every list of entries from a fresh arena is linearizable, with a sequential set that is empty at first
-  pub linearizable : Linearizable [] (fresh_words layout workers nodes) entries
-  linearizable = rw (← fresh_set layout workers nodes good) (proved fresh)
+  pub linearizable : Linearizable [] (fresh_words workers nodes) entries
+  linearizable = rw (← fresh_set workers nodes good) (proved fresh)
 
   -- no turn of it meets 6, 7 or 14
-  pub unbroken : Unbroken (fresh_words layout workers nodes) entries
+  pub unbroken : Unbroken (fresh_words workers nodes) entries
   unbroken = unmet fresh
 
   -- and at every time its chain is whole, and its set is that of document 01's words
-  pub exact_sets : ExactSets (fresh_words layout workers nodes) entries
+  pub exact_sets : ExactSets (fresh_words workers nodes) entries
   exact_sets = sets_exact fresh
 
-  -- and in layout 2 its header counts the labels of the set
-  pub exact_counts : ExactCounts (fresh_words layout workers nodes) entries
+  -- and its header counts the labels of the set
+  pub exact_counts : ExactCounts (fresh_words workers nodes) entries
   exact_counts = counts_exact fresh
 
   -- and an idle worker has the idle record
-  pub resting : Resting (fresh_words layout workers nodes) entries
+  pub resting : Resting (fresh_words workers nodes) entries
   resting = all_rest fresh
 
   -- and a wait is a turn of its call, and names another worker, a busy one
-  pub waiting : Waiting (fresh_words layout workers nodes) entries
+  pub waiting : Waiting (fresh_words workers nodes) entries
   waiting = all_blocked fresh
 
   -- and a snapshot, wherever there is room for N less 2 keys, lists what a look-up is told that starts then and is alone
-  pub true_snapshots : TrueSnapshots (fresh_words layout workers nodes) entries
+  pub true_snapshots : TrueSnapshots (fresh_words workers nodes) entries
   true_snapshots = all_true fresh
 
 -- all of this, of one schedule

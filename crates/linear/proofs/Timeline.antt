@@ -12,7 +12,7 @@ use Rattle.worker.specs.Worker.{is_call, idle_worker, started_worker}
 use Rattle.worker.specs.declared.report.Report.{Report}
 use Rattle.worker.specs.declared.report.Step.{Step}
 use Rattle.worker.proofs.TurnLaws.{step_row}
-use Rattle.words.specs.Layout.{good_counts, layout_of, workers_of, nodes_of, node_width, has_length}
+use Rattle.words.specs.Layout.{good_counts, workers_of, nodes_of}
 use Rattle.words.specs.Records.{worker_at}
 use Rattle.words.specs.declared.entry.Entry.{Entry}
 use Rattle.arena.specs.Init.{fresh_words}
@@ -35,18 +35,16 @@ use Rattle.linear.proofs.RestInvariant.{rest_sound, rest_inv}
 
 -- a list of entries from an arena that is sound and at rest
 pub record Schedule : Type 0 where
-  pub layout : ℕ
   pub workers : ℕ
   pub nodes : ℕ
   pub initial : List ℕ
   pub entries : List Entry
-  pub begins_sound : Sound layout workers nodes initial
+  pub begins_sound : Sound workers nodes initial
   pub rest : SoundAtRest initial
 
 abbrev pub rest_schedule : (initial : List ℕ) (entries : List Entry) → SoundAtRest initial → Schedule
 rest_schedule initial entries rest =
     record {
-      layout = layout_of initial;
       workers = workers_of initial;
       nodes = nodes_of initial;
       initial = initial;
@@ -56,16 +54,15 @@ rest_schedule initial entries rest =
     }
 
 -- from a fresh arena of just its total
-abbrev pub fresh_schedule : (layout workers nodes : ℕ) (entries : List Entry) → good_counts layout workers nodes ≡ true → Schedule
-fresh_schedule layout workers nodes entries good =
+abbrev pub fresh_schedule : (workers nodes : ℕ) (entries : List Entry) → good_counts workers nodes ≡ true → Schedule
+fresh_schedule workers nodes entries good =
     record {
-      layout = layout;
       workers = workers;
       nodes = nodes;
-      initial = fresh_words layout workers nodes;
+      initial = fresh_words workers nodes;
       entries = entries;
-      begins_sound = fresh_sound layout workers nodes good;
-      rest = fresh_rests layout workers nodes good;
+      begins_sound = fresh_sound workers nodes good;
+      rest = fresh_rests workers nodes good;
     }
 
 module _ (r : Schedule) where
@@ -117,21 +114,17 @@ module _ (r : Schedule) where
     nothing : is_started (outcome time) ≡ false → is_reported (outcome time) ≡ false → is_finished (outcome time) ≡ false →
         arena (suc time) ≡ arena time → Happens time
     start : outcome time ≡ call_started → ((state time).worker (entry time).worker).stage ≡ 0 →
-        is_call (state time).lengths (entry time).act (entry time).key (entry time).length ≡ true → (entry time).worker < r.workers →
+        is_call (entry time).act (entry time).key (entry time).length ≡ true → (entry time).worker < r.workers →
         state (suc time) ≡ stepped (state time) (entry time).worker (start_step (entry time).act (entry time).key (entry time).length) → Happens time
     turn : (step : Step) → outcome time ≡ turn_reported step.report → Row r.nodes (state time) (entry time).worker step →
         (((state time).worker (entry time).worker).stage ≡ 0 → step.worker ≡ (state time).worker (entry time).worker) →
         state (suc time) ≡ stepped (state time) (entry time).worker step → Happens time
 
   -- the header stays in order
-  pub sound : (time : ℕ) → Sound r.layout r.workers r.nodes (arena time)
+  pub sound : (time : ℕ) → Sound r.workers r.nodes (arena time)
   unfolding arena_at
   sound zero = r.begins_sound
   sound (suc time) = after_sound (sound time) (entry time)
-
-  -- whether nodes have a length is the same at every time
-  pub lengths_at : (time : ℕ) → (state time).lengths ≡ has_length (node_width r.layout)
-  lengths_at time = ap (λ layout. has_length (node_width layout)) (sound time).layout_is
 
   -- past the last worker there are idle records
   pub idle_past : (time v : ℕ) → r.workers ≤ v → (state time).worker v ≡ idle_worker
@@ -188,7 +181,7 @@ module _ (r : Schedule) where
     pub starting : run_starts_at (suc time) ≡ true
     pub known : (entry time).worker < r.workers
     pub idle : ((state time).worker (entry time).worker).stage ≡ 0
-    pub call : is_call (state time).lengths (entry time).act (entry time).key (entry time).length ≡ true
+    pub call : is_call (entry time).act (entry time).key (entry time).length ≡ true
     pub next : state (suc time) ≡ stepped (state time) (entry time).worker
         (start_step (entry time).act (entry time).key (entry time).length)
 

@@ -3,7 +3,7 @@ use Prim.Native.Nat.{ℕ, ◌<◌}
 use mathlib.Core.Path.{◌≡◌, refl, sym, ap, subst, ◌∙◌}
 use mathlib.Core.Logic.{◌↔◌}
 use mathlib.Core.List.{Memᴰ}
-use mathlib.Core.Bool.{true, true≢false, and-false}
+use mathlib.Core.Bool.{true, true≢false}
 use native.Mathlib.Omega.{arith}
 use borrow.Author.Tests.{lt-leb, eq-eqb}
 use Rattle.worker.specs.Worker.{contains, is_key, idle_stage, started_worker}
@@ -47,10 +47,10 @@ module _ (r : Schedule) (time : ℕ) where
     begins =
         judged_append (header_refusals (arena r time)) (call_refusals (arena r time) w contains key 0) entry_refused call_started
         ∙ none_accepts (header_refusals (arena r time)) entry_refused _ (sound r time).none
-        ∙ rw (lt-leb (workers_of (arena r time)) w there, idle, good_key, and-false)
+        ∙ rw (lt-leb (workers_of (arena r time)) w there, idle, good_key)
 
     looks : Entered r.workers r.nodes (arena r time) (look_up w key) →
-        Looks r.layout r.workers r.nodes (state r time) (always r time) w key known (key_range key good_key)
+        Looks r.workers r.nodes (state r time) (always r time) w key known (key_range key good_key)
         (after (arena r time) (look_up w key)) 22 65535
     looks (refuses number event same unknown) = let z : ◌≡◌ {A = ℕ} 0 1 = cc (begins, event) in absurd (omega arith)
     looks (starts event starting known free call next) =
@@ -73,7 +73,7 @@ module _ (r : Schedule) (time : ℕ) where
         × ((Memᴰ key (keys_of (arena r time)) → ⊥) → Answers (arena r time) w key No)
     answers =
         let tells =
-        tells_22 r.layout r.workers r.nodes (state r time) (always r time) w key known (key_range key good_key)
+        tells_22 r.workers r.nodes (state r time) (always r time) w key known (key_range key good_key)
         (looks (entered_at r time (look_up w key) (always r time))) in
         (λ m. (begins, tells.0 ((listed key).0 m)), λ out. (begins, tells.1 (λ i. out ((listed key).1 i))))
 

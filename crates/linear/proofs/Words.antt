@@ -1,7 +1,7 @@
 -- A field of a node as a word of an arena, and what an effect makes of it.
 use Prim.Native.Nat.{ℕ, ◌+◌, ◌*◌, ◌-◌, ◌≤◌, ◌<◌}
 use mathlib.Core.Path.{◌≡◌, refl, ◌∙◌}
-use mathlib.Core.List.{List, [], ◌∷◌}
+use mathlib.Core.List.{List}
 use mathlib.Core.Bool.{Bool, true, false, cond}
 use native.Mathlib.Omega.{arith}
 use native.Mathlib.Nat.{mul-le-mul_left}
@@ -15,29 +15,27 @@ use Rattle.worker.specs.declared.Node.{Node}
 use Rattle.worker.specs.declared.report.Effect.{Effect}
 use Rattle.worker.specs.declared.report.Effect.TheVariants.{Nothing, SetOwner, SetNext, SetMark, Fill}
 use Rattle.worker.proofs.EffectLaws.{EffectBelow}
-use Rattle.words.specs.Layout.{word, nodes_of, layout_of, nodes_from_of, total_of, node_width, node_key, node_next, node_mark, node_owner, node_length, node_part, node_from, slot}
+use Rattle.words.specs.Layout.{word, nodes_of, nodes_from_of, total_of, node_width, node_key, node_next, node_mark, node_owner, node_length, node_part, node_from, slot}
 use Rattle.words.specs.Records.{node_words, with_node}
-use Rattle.words.proofs.Bounds.{wide, narrow}
 use Rattle.words.proofs.HeaderLaws.{Header}
-use Rattle.words.proofs.RecordLaws.{node_long}
-use Rattle.words.proofs.Slots.{slot_same, slot_within}
+use Rattle.words.proofs.Slots.{slot_same}
 use Rattle.words.proofs.Runs.{sets_outside, sets_at}
 use Rattle.lazy.specs.Turn.{with_effect}
 use Rattle.lazy.proofs.InsideLaws.{field_inside}
-use Rattle.linear.proofs.State.{word_after, length_after}
+use Rattle.linear.proofs.State.{word_after}
 
 -- a field of a node, read from the node records
 abbrev pub field_in : List ℕ → ℕ → ℕ → ℕ
-field_in arena node field = word (node_part arena) (slot (node_width (layout_of arena)) node field)
+field_in arena node field = word (node_part arena) (slot node_width node field)
 
 module _ (arena : List ℕ) (header : Header arena) where
   -- a field of a node that there is stands in its place of the arena
-  pub field_word : (node field : ℕ) → node < nodes_of arena → field < node_width (layout_of arena) →
+  pub field_word : (node field : ℕ) → node < nodes_of arena → field < node_width →
       field_in arena node field ≡ word arena (node_from arena node field)
   unfolding node_part node_from
   field_word node field below fits =
       let inside = field_inside arena node field header below fits in
-      let at = slot (node_width (layout_of arena)) node field in
+      let at = slot node_width node field in
       get_or-take (total_of arena - nodes_from_of arena) (drop (nodes_from_of arena) arena) at 0 (omega arith)
       ∙ get_or-drop (nodes_from_of arena) arena at 0
 
@@ -45,19 +43,18 @@ module _ (arena : List ℕ) (header : Header arena) where
   pub no_field : (node field : ℕ) → nodes_of arena ≤ node → field_in arena node field ≡ 0
   unfolding node_part
   no_field node field far =
-      let width = node_width (layout_of arena) in
-      let past : width * nodes_of arena ≤ width * node = mul-le-mul_left width far in
+      let past : node_width * nodes_of arena ≤ node_width * node = mul-le-mul_left node_width far in
       let room = total_of arena - nodes_from_of arena in
       let most = length-take room (drop (nodes_from_of arena) arena) in
       get_or-eq_default (node_part arena) 0 (omega (arith, most, header.from, header.end))
 
   -- two places of fields are the same only where node and field are
-  field_same : (n m f g : ℕ) → f < node_width (layout_of arena) → g < node_width (layout_of arena) → node_from arena n f ≡ node_from arena m g → (n ≡ m) × (f ≡ g)
+  field_same : (n m f g : ℕ) → f < node_width → g < node_width → node_from arena n f ≡ node_from arena m g → (n ≡ m) × (f ≡ g)
   unfolding node_from
-  field_same n m f g fits room same = slot_same (node_width (layout_of arena)) n m f g fits room (omega arith)
+  field_same n m f g fits room same = slot_same node_width n m f g fits room (omega arith)
 
   -- with a field of a node set, that field is the value, and every other as it was
-  field_set : (node field value n f : ℕ) → node < nodes_of arena → field < node_width (layout_of arena) → f < node_width (layout_of arena) →
+  field_set : (node field value n f : ℕ) → node < nodes_of arena → field < node_width → f < node_width →
       word (set arena (node_from arena node field) value) (node_from arena n f)
       ≡ cond (eqb f field) (cond (eqb n node) value (word arena (node_from arena n f))) (word arena (node_from arena n f))
   field_set node field value n f below fits room =
@@ -79,45 +76,35 @@ module _ (arena : List ℕ) (header : Header arena) where
           get_or-set_same arena (node_from arena node field) value 0 (omega (arith, header.whole))
 
   -- with all fields of a node set, those are the new node's, and all others as they were
-  node_set : (node : ℕ) (to : Node) (n f : ℕ) → node < nodes_of arena → f < node_width (layout_of arena) →
+  node_set : (node : ℕ) (to : Node) (n f : ℕ) → node < nodes_of arena → f < node_width →
       word (with_node arena node to) (node_from arena n f)
-      ≡ cond (eqb n node) (word (to.key ∷ to.next ∷ to.mark ∷ to.owner ∷ to.length ∷ []) f) (word arena (node_from arena n f))
+      ≡ cond (eqb n node) (word (node_words to) f) (word arena (node_from arena n f))
   unfolding with_node node_from
   node_set node to n f below room =
       elim (ℕ_discrete n node) [
         | no q ↦ rw (ne_eqb n node q)
             (sets_outside words arena (node_from arena node node_key) (node_from arena n f)
-            (λ k h same. q (field_same n node f k room (omega (arith, long)) (omega arith)).0))
+            (λ k h same. q (field_same n node f k room h (omega arith)).0))
         | yes q ↦ rw (eq-eqb n node q, q) own
       ]
     where
-      width : ℕ
-      width = node_width (layout_of arena)
-
       words : List ℕ
-      words = node_words width to
+      words = node_words to
 
-      long : length words ≡ width
-      long = node_long width to (narrow (layout_of arena))
-
-      own : word (sets arena (node_from arena node node_key) words) (node_from arena node f)
-          ≡ word (to.key ∷ to.next ∷ to.mark ∷ to.owner ∷ to.length ∷ []) f
+      own : word (sets arena (node_from arena node node_key) words) (node_from arena node f) ≡ word words f
       own =
-          let past = slot_within width node (nodes_of arena) 0 below (omega arith) in
-          let last = field_inside arena node (width - 1) header below (omega arith) in
+          let last = field_inside arena node node_length header below (omega arith) in
           let place : node_from arena node f ≡ node_from arena node node_key + f = omega arith in
-          rw place
-          (sets_at words arena (node_from arena node node_key) f (omega (arith, long)) (omega (arith, long, header.whole))
-          ∙ get_or-take width _ f 0 room)
+          rw place (sets_at words arena (node_from arena node node_key) f (omega arith) (omega (arith, header.whole)))
 
   -- an effect makes of every field what `word_after` says
-  pub effect_word : (e : Effect) (n f : ℕ) → EffectBelow (nodes_of arena) e → f < node_width (layout_of arena) →
+  pub effect_word : (e : Effect) (n f : ℕ) → EffectBelow (nodes_of arena) e → f < node_width →
       word (with_effect arena e) (node_from arena n f) ≡ word_after e n f (word arena (node_from arena n f))
   unfolding with_effect
   effect_word Nothing n f below room = refl
-  effect_word (SetOwner node owner) n f below room = field_set node node_owner owner n f below (omega (arith, wide header.good)) room
-  effect_word (SetNext node next) n f below room = field_set node node_next next n f below (omega (arith, wide header.good)) room
-  effect_word (SetMark node) n f below room = field_set node node_mark 1 n f below (omega (arith, wide header.good)) room
+  effect_word (SetOwner node owner) n f below room = field_set node node_owner owner n f below (omega arith) room
+  effect_word (SetNext node next) n f below room = field_set node node_next next n f below (omega arith) room
+  effect_word (SetMark node) n f below room = field_set node node_mark 1 n f below (omega arith) room
   effect_word (Fill node key next length) n f below room = node_set node (new_node key next length) n f below room
 
 -- two cases with one outcome
@@ -132,18 +119,3 @@ word_stays count (SetOwner node owner) n f old below far = rw (ne_eqb n node (om
 word_stays count (SetNext node next) n f old below far = rw (ne_eqb n node (omega arith)) (same_word (eqb f node_next) old)
 word_stays count (SetMark node) n f old below far = rw (ne_eqb n node (omega arith)) (same_word (eqb f node_mark) old)
 word_stays count (Fill node key next length) n f old below far = rw (ne_eqb n node (omega arith))
-
--- where nodes have a word for the length, it changes as that word, and where not, it stays 0
-pub length_word : (e : Effect) (n old : ℕ) → length_after true e n old ≡ word_after e n node_length old
-length_word Nothing n old = refl
-length_word (SetOwner node owner) n old = refl
-length_word (SetNext node next) n old = refl
-length_word (SetMark node) n old = refl
-length_word (Fill node key next length) n old = refl
-
-pub no_length : (e : Effect) (n : ℕ) → length_after false e n 0 ≡ 0
-no_length Nothing n = refl
-no_length (SetOwner node owner) n = refl
-no_length (SetNext node next) n = refl
-no_length (SetMark node) n = refl
-no_length (Fill node key next length) n = same_word (eqb n node) 0

@@ -20,17 +20,17 @@ abbrev pub MoreUnseen : Type 0
 MoreUnseen = (arena more : List ℕ) (entry : Entry) → replied (header_refusals arena) [] ≡ accepted [] → Unseen arena more entry
 
 -- what init leaves in a lent slice: a list from there comes to what it comes to from a fresh arena, with the words past the total behind
-pub record AsFresh (lent : List ℕ) (layout workers nodes : ℕ) (entries : List Entry) : Type 0 where
-  pub events : (time : ℕ) → event_at (init_arena lent layout workers nodes) entries time ≡ event_at (fresh_words layout workers nodes) entries time
+pub record AsFresh (lent : List ℕ) (workers nodes : ℕ) (entries : List Entry) : Type 0 where
+  pub events : (time : ℕ) → event_at (init_arena lent workers nodes) entries time ≡ event_at (fresh_words workers nodes) entries time
   pub words : (time : ℕ) →
-      arena_at (init_arena lent layout workers nodes) entries time
-      ≡ arena_at (fresh_words layout workers nodes) entries time ++ drop (total layout workers nodes) lent
+      arena_at (init_arena lent workers nodes) entries time
+      ≡ arena_at (fresh_words workers nodes) entries time ++ drop (total workers nodes) lent
   -- it is sound and at rest; and demand 3, with all that is claimed beside it, holds of it there
-  pub at_rest : SoundAtRest (init_arena lent layout workers nodes)
-  pub works : WorksFrom [] (init_arena lent layout workers nodes) entries
+  pub at_rest : SoundAtRest (init_arena lent workers nodes)
+  pub works : WorksFrom [] (init_arena lent workers nodes) entries
 
 -- so it is in every slice that init accepts (`LentLaws.as_fresh`)
 abbrev pub LaidAsFresh : Type 0
 LaidAsFresh =
-    (lent : List ℕ) (layout workers nodes : ℕ) (entries : List Entry) → init_answer lent layout workers nodes ≡ accepted [] →
-    AsFresh lent layout workers nodes entries
+    (lent : List ℕ) (workers nodes : ℕ) (entries : List Entry) → init_answer lent workers nodes ≡ accepted [] →
+    AsFresh lent workers nodes entries

@@ -6,7 +6,7 @@ use Rattle.worker.specs.declared.refusal.Refusal.TheVariants.{BrokenRecord, Brok
 use Rattle.worker.specs.Report.{answer_number}
 use Rattle.worker.specs.declared.report.Answer.{Answer}
 use Rattle.worker.specs.declared.report.Report.TheVariants.{Finished}
-use Rattle.words.specs.Layout.{layout2, layout_of, workers_of, stored_of}
+use Rattle.words.specs.Layout.{workers_of, stored_of}
 use Rattle.words.specs.Records.{worker_at}
 use Rattle.words.specs.Replies.{accepted}
 use Rattle.words.specs.declared.entry.Entry.{Entry}
@@ -60,10 +60,10 @@ module _ (initial : List ℕ) (entries : List Entry) where
       ChainWhole (arena_at initial entries time)
       × ((label : Label) → Memᴰ label (set_of (arena_at initial entries time)) ↔ InSet (arena_at initial entries time) label)
 
-  -- and in layout 2 the header's count is the size of the set, and is what `stored` answers (document 02, A6)
+  -- and the header's count is the size of the set, and is what `stored` answers (document 02, A6)
   abbrev pub ExactCounts : Type 0
   ExactCounts =
-      (time : ℕ) → layout_of (arena_at initial entries time) ≡ layout2 →
+      (time : ℕ) →
       (stored_of (arena_at initial entries time) ≡ length (set_of (arena_at initial entries time)))
       × (stored_answer (arena_at initial entries time) ≡ accepted (length (set_of (arena_at initial entries time)) ∷ []))
 

@@ -8,7 +8,7 @@ use lib.ListN.{length, length-map}
 use lib.Dec.{eqb, ltb}
 use borrow.Author.Tests.{ltb-true, ltb-false, eqb-true, not-false, lt-ltb, le-ltb}
 use Rattle.worker.specs.Refusals.{judged}
-use Rattle.words.specs.Layout.{layout2, good_counts, total}
+use Rattle.words.specs.Layout.{good_counts, total}
 use Rattle.worker.specs.declared.refusal.Refusal.{Refusal}
 use Rattle.words.specs.Replies.{accepted, replied}
 use Rattle.words.proofs.Judged.{none_holds}
@@ -35,10 +35,10 @@ good_schedule schedule good =
 
 -- what holds where a run is accepted
 pub record Accepted (arena : List ℕ) (workers nodes : ℕ) (schedule : List ℕ) (call_room wait_room : ℕ) : Type 0 where
-  pub counts : good_counts layout2 workers nodes ≡ true
+  pub counts : good_counts workers nodes ≡ true
   pub whole : length schedule % entry_width ≡ 0
   pub short : length schedule ≤ 16000
-  pub fits : total layout2 workers nodes ≤ length arena
+  pub fits : total workers nodes ≤ length arena
   pub calls_fit : count_in is_operation (entries_of schedule) ≤ call_room
   pub waits_fit : count_in is_turn (entries_of schedule) ≤ wait_room
 
@@ -100,13 +100,13 @@ module _ (arena : List ℕ) (workers nodes : ℕ) (schedule : List ℕ) (call_ro
 
 -- as many calls and waits are told as there are records
 pub told_calls : (workers nodes : ℕ) (schedule : List ℕ) →
-    (totals (fresh_words layout2 workers nodes) (entries_of schedule)).calls ≡ length (records_of workers nodes schedule)
+    (totals (fresh_words workers nodes) (entries_of schedule)).calls ≡ length (records_of workers nodes schedule)
 unfolding totals records_of
-told_calls workers nodes schedule = sym (length-map (calls (fresh_words layout2 workers nodes) (entries_of schedule)) record_of)
+told_calls workers nodes schedule = sym (length-map (calls (fresh_words workers nodes) (entries_of schedule)) record_of)
 
 pub told_waits : (workers nodes : ℕ) (schedule : List ℕ) →
-    (totals (fresh_words layout2 workers nodes) (entries_of schedule)).waits ≡ length (waits_of workers nodes schedule)
+    (totals (fresh_words workers nodes) (entries_of schedule)).waits ≡ length (waits_of workers nodes schedule)
 unfolding waits_of
 told_waits workers nodes schedule =
-    waits_counted (fresh_words layout2 workers nodes) (entries_of schedule)
-    ∙ sym (length-map (waits (fresh_words layout2 workers nodes) (entries_of schedule)) wait_of)
+    waits_counted (fresh_words workers nodes) (entries_of schedule)
+    ∙ sym (length-map (waits (fresh_words workers nodes) (entries_of schedule)) wait_of)

@@ -12,7 +12,7 @@ use lib.Dec.{eqb}
 use borrow.Author.Tests.{eq-eqb, ne_eqb}
 use Rattle.std.specs.List.{filter}
 use Rattle.worker.specs.Node.{head, tail}
-use Rattle.words.specs.Layout.{layout_of, nodes_of, node_width, node_part}
+use Rattle.words.specs.Layout.{nodes_of}
 use Rattle.arena.specs.declared.chain.Label.{Label}
 use Rattle.arena.specs.Sets.{member, is_unmarked, set_nodes, chain_labels, node_in, label_in, ChainWhole, set_of}
 use Rattle.arena.proofs.ListLaws.{from_filter}
@@ -32,7 +32,7 @@ eqb_sym a b =
 
 module _ (arena : List ℕ) (key : ℕ) where
   abbrev unmarked : ℕ → Bool
-  unmarked = is_unmarked (node_width (layout_of arena)) (node_part arena)
+  unmarked = is_unmarked (node_in arena)
 
   -- the key is the key of an unmarked one of some nodes
   abbrev among : List ℕ → Bool

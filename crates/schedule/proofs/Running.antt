@@ -14,7 +14,7 @@ use Rattle.std.specs.List.{filter}
 use Rattle.std.proofs.lemmas.List.Elements.{filter-append}
 use Rattle.worker.proofs.Laws.{call_parts}
 use Rattle.worker.proofs.RefusalLaws.{none_accepts}
-use Rattle.words.specs.Layout.{layout2, good_counts, total}
+use Rattle.words.specs.Layout.{good_counts, total}
 use Rattle.words.specs.Replies.{accepted, refusing}
 use Rattle.words.specs.Header.{header_refusals}
 use Rattle.arena.specs.Init.{fresh_words, init_refusals, init_arena}
@@ -23,7 +23,7 @@ use Rattle.linear.specs.Entries.{is_turn, is_started, is_refused, is_waits, afte
 use Rattle.linear.specs.History.{entry_at, arena_at, event_at, call_at, calls, wait_at, waits as all_waits, totals}
 use Rattle.linear.proofs.MoreTimes.{passing, passing_count, map_same}
 use Rattle.linear.proofs.Members.{whole}
-use Rattle.linear.proofs.Timeline.{fresh_schedule, Schedule, Happens, nothing, start, turn, happens, arena, state, entry, outcome_is, run_starts_at, sound, always, last}
+use Rattle.linear.proofs.Timeline.{fresh_schedule, Schedule, Happens, nothing, start, turn, happens, arena, entry, outcome_is, run_starts_at, sound, always, last}
 use Rattle.linear.proofs.Waiting.{starts}
 use Rattle.schedule.specs.declared.book.Book.{Book}
 use Rattle.schedule.specs.Run.{is_operation, count_in, record_of, records_of, wait_of, waits_of, told, totals_of}
@@ -114,7 +114,7 @@ module _ (r : Schedule) where
     where
       go : Happens r now → is_operation (entry r now) ≡ true
       go (nothing unstarted unreported unfinished same) = absurd (true≢false (sym starting ∙ unstarted))
-      go (start event idle call known next) = (call_parts (state r now).lengths (entry r now).act (entry r now).key (entry r now).length call).0
+      go (start event idle call known next) = (call_parts (entry r now).act (entry r now).key (entry r now).length call).0
       go (turn step event row idle next) = absurd (true≢false (sym starting ∙ ap is_started event))
 
   turns_then : (now : ℕ) → waiting_at r (suc now) ≡ true → is_turn (entry r now) ≡ true
@@ -124,32 +124,32 @@ module _ (r : Schedule) where
       starts_silent starts = ap is_waits (outcome_is r now) ∙ start_silent (arena r now) (entry r now) starts
 
 module _ (workers nodes : ℕ) (schedule lent lent_waits : List ℕ) where
-  abbrev run : good_counts layout2 workers nodes ≡ true → Schedule
-  run good = fresh_schedule layout2 workers nodes (entries_of schedule) good
+  abbrev run : good_counts workers nodes ≡ true → Schedule
+  run good = fresh_schedule workers nodes (entries_of schedule) good
 
   -- what holds between two entries
   pub record Running (done : ℕ) (book : Book) (words history waits : List ℕ) : Type 0 where
-    pub good : good_counts layout2 workers nodes ≡ true
+    pub good : good_counts workers nodes ≡ true
     pub past : done ≤ length (entries_of schedule)
-    pub arena_is : words ≡ arena_at (fresh_words layout2 workers nodes) (entries_of schedule) done
+    pub arena_is : words ≡ arena_at (fresh_words workers nodes) (entries_of schedule) done
     pub booked : Booked (run good) done book
     pub history_is : history ≡ held (run good) lent done
     pub waits_are : waits ≡ held_waits (run good) lent_waits done
 
   -- a fresh arena in just its words, and no entry made
-  laid : (words : List ℕ) → good_counts layout2 workers nodes ≡ true → length words ≡ total layout2 workers nodes →
-      init_arena words layout2 workers nodes ≡ fresh_words layout2 workers nodes
+  laid : (words : List ℕ) → good_counts workers nodes ≡ true → length words ≡ total workers nodes →
+      init_arena words workers nodes ≡ fresh_words workers nodes
   unfolding init_arena init_refusals
   laid words good just =
       rw (
         good,
-        le-ltb (length words) (total layout2 workers nodes) (omega arith),
-        drop_of_length-le words {i = total layout2 workers nodes} (omega arith),
+        le-ltb (length words) (total workers nodes) (omega arith),
+        drop_of_length-le words {i = total workers nodes} (omega arith),
       )
-      (append-nil (fresh_words layout2 workers nodes))
+      (append-nil (fresh_words workers nodes))
 
-  pub begins : (words : List ℕ) → good_counts layout2 workers nodes ≡ true → length words ≡ total layout2 workers nodes →
-      Running 0 new_book (init_arena words layout2 workers nodes) lent lent_waits
+  pub begins : (words : List ℕ) → good_counts workers nodes ≡ true → length words ≡ total workers nodes →
+      Running 0 new_book (init_arena words workers nodes) lent lent_waits
   unfolding arena_at numbers_from flatten
   begins words good just =
       record {
@@ -175,8 +175,8 @@ module _ (workers nodes : ℕ) (schedule lent lent_waits : List ℕ) where
       roomy few =
           let entries_few : length (entries_of schedule) ≤ 4000 = omega (arith, entries_quotient schedule) in
           let calls = passing_few (run_starts_at r) done in
-          let refusals = passing_few (λ time. is_refused (event_at (fresh_words layout2 workers nodes) (entries_of schedule) time)) done in
-          let waits_few = passing_few (λ time. is_waits (event_at (fresh_words layout2 workers nodes) (entries_of schedule) time)) done in (
+          let refusals = passing_few (λ time. is_refused (event_at (fresh_words workers nodes) (entries_of schedule) time)) done in
+          let waits_few = passing_few (λ time. is_waits (event_at (fresh_words workers nodes) (entries_of schedule) time)) done in (
             omega (arith, now.booked.calls_are),
             omega (arith, now.booked.refused_are),
             omega (arith, now.booked.waits_are),
@@ -250,9 +250,9 @@ module _ (workers nodes : ℕ) (schedule lent lent_waits : List ℕ) where
       where
         same : map (record_by whole_run (last whole_run)) (starts whole_run (last whole_run)) ≡ records_of workers nodes schedule
         same =
-            map_same (record_by whole_run (last whole_run)) (λ x. record_of (call_at (fresh_words layout2 workers nodes) (entries_of schedule) x))
+            map_same (record_by whole_run (last whole_run)) (λ x. record_of (call_at (fresh_words workers nodes) (entries_of schedule) x))
             (starts whole_run (last whole_run)) (λ x m. ap record_of (call_last whole_run x))
-            ∙ sym (map-map record_of (call_at (fresh_words layout2 workers nodes) (entries_of schedule)) (starts whole_run (last whole_run)))
+            ∙ sym (map-map record_of (call_at (fresh_words workers nodes) (entries_of schedule)) (starts whole_run (last whole_run)))
 
         counts : length (records_of workers nodes schedule) ≡ length (starts whole_run (last whole_run))
         counts = ap length (sym same) ∙ length-map (starts whole_run (last whole_run)) (record_by whole_run (last whole_run))
@@ -262,14 +262,14 @@ module _ (workers nodes : ℕ) (schedule lent lent_waits : List ℕ) where
     waits_end =
         let times = passing (waiting_at whole_run) (last whole_run) in
         let same : map (run_wait_at whole_run) times ≡ waits_of workers nodes schedule
-        = sym (map-map wait_of (wait_at (fresh_words layout2 workers nodes) (entries_of schedule)) times) in
+        = sym (map-map wait_of (wait_at (fresh_words workers nodes) (entries_of schedule)) times) in
         end.waits_are
         ∙ ap (λ n. flat_words wait_words (map (run_wait_at whole_run) times) ++ drop n lent_waits)
         (ap (λ n. wait_width * n) (sym (length-map times (run_wait_at whole_run))) ∙ sym (flat_length wait_laws (map (run_wait_at whole_run) times)))
         ∙ ap (λ records. told (flat_words wait_words records) lent_waits) same
 
     pub totals_end : record { entries = length (entries_of schedule); refused = book.refused; waits = book.waits; calls = book.calls }
-        ≡ totals_of (totals (fresh_words layout2 workers nodes) (entries_of schedule))
+        ≡ totals_of (totals (fresh_words workers nodes) (entries_of schedule))
     unfolding totals calls
     totals_end =
         let booked = end.booked in
@@ -282,9 +282,9 @@ module _ (workers nodes : ℕ) (schedule lent lent_waits : List ℕ) where
         }
 
 -- no more records than entries that ask for them
-module _ (workers nodes : ℕ) (schedule : List ℕ) (good : good_counts layout2 workers nodes ≡ true) where
+module _ (workers nodes : ℕ) (schedule : List ℕ) (good : good_counts workers nodes ≡ true) where
   abbrev all_entries : Schedule
-  all_entries = fresh_schedule layout2 workers nodes (entries_of schedule) good
+  all_entries = fresh_schedule workers nodes (entries_of schedule) good
 
   pub calls_few : length (records_of workers nodes schedule) ≤ count_in is_operation (entries_of schedule)
   unfolding records_of calls

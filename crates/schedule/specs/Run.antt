@@ -1,4 +1,4 @@
--- run (document 01: run a schedule on a board that it lays itself; document 02, A1: and write its waits, A2: of layout 2).
+-- run (document 01: run a schedule on a board that it lays itself; document 02, A1: and write its waits).
 use Rattle.std.specs.Prelude.{ℕ, ◌*◌, ◌/◌, ◌%◌, Bool, not, ◌||◌, length, get_or, drop, ltb, eqb, Result, OnOk}
 use Rattle.std.specs.List.{filter}
 use Rattle.std.proofs.Common.{refl, lit<}
@@ -7,7 +7,7 @@ use Rattle.worker.specs.Worker.{add, contains, within}
 use Rattle.worker.specs.Refusals.{Test, judged}
 use Rattle.worker.specs.declared.refusal.Refusal.{Refusal}
 use Rattle.worker.specs.declared.refusal.Refusal.TheVariants.{BadCounts, BadSchedule, ShortArena, NoRoom}
-use Rattle.words.specs.Layout.{layout2, good_counts, total}
+use Rattle.words.specs.Layout.{good_counts, total}
 use Rattle.words.specs.Entries.{entry_width, most_entries, entries_of}
 use Rattle.words.specs.Replies.{Reply, replied, written}
 use Rattle.words.specs.Flat.{flat_words, IsRecord}
@@ -31,12 +31,12 @@ count_in test entries = length (filter test entries)
 unfoldable pub is_bad_schedule : List ℕ → Bool
 is_bad_schedule schedule = not (eqb (length schedule % entry_width) 0) || ltb (entry_width * most_entries) (length schedule)
 
--- a run lays layout 2. Order: 10, 9, 1, 8; `call_room` and `wait_room` are the numbers of records that are lent for calls and for waits
+-- order: 10, 9, 1, 8; `call_room` and `wait_room` are the numbers of records that are lent for calls and for waits
 unfoldable pub run_refusals : List ℕ → ℕ → ℕ → List ℕ → ℕ → ℕ → List Test
 run_refusals arena workers nodes schedule call_room wait_room =
-    (not (good_counts layout2 workers nodes), BadCounts)
+    (not (good_counts workers nodes), BadCounts)
     ∷ (is_bad_schedule schedule, BadSchedule)
-    ∷ (ltb (length arena) (total layout2 workers nodes), ShortArena)
+    ∷ (ltb (length arena) (total workers nodes), ShortArena)
     ∷ (ltb call_room (count_in is_operation (entries_of schedule)), NoRoom)
     ∷ (ltb wait_room (count_in is_turn (entries_of schedule)), NoRoom)
     ∷ []
@@ -44,7 +44,7 @@ run_refusals arena workers nodes schedule call_room wait_room =
 -- the run returns entries, refused, waits, calls: the totals of the list of its entries on the arena it lays
 unfoldable pub run_answer : List ℕ → ℕ → ℕ → List ℕ → ℕ → ℕ → Reply
 run_answer arena workers nodes schedule call_room wait_room =
-    let totals = history.totals (fresh_words layout2 workers nodes) (entries_of schedule) in
+    let totals = history.totals (fresh_words workers nodes) (entries_of schedule) in
     replied (run_refusals arena workers nodes schedule call_room wait_room)
     (totals.entries ∷ totals.refused ∷ totals.waits ∷ totals.calls ∷ [])
 
@@ -53,7 +53,7 @@ unfoldable pub run_arena : List ℕ → ℕ → ℕ → List ℕ → ℕ → ℕ
 run_arena arena workers nodes schedule call_room wait_room =
     let entries = entries_of schedule in
     written (run_refusals arena workers nodes schedule call_room wait_room) arena
-    (history.arena_at (fresh_words layout2 workers nodes) entries (length entries) ++ drop (total layout2 workers nodes) arena)
+    (history.arena_at (fresh_words workers nodes) entries (length entries) ++ drop (total workers nodes) arena)
 
 -- the history: a record for each call, in order of start
 abbrev pub record_of : history.Call → Call
@@ -69,14 +69,14 @@ record_of call =
     }
 
 unfoldable pub records_of : ℕ → ℕ → List ℕ → List Call
-records_of workers nodes schedule = map record_of (history.calls (fresh_words layout2 workers nodes) (entries_of schedule))
+records_of workers nodes schedule = map record_of (history.calls (fresh_words workers nodes) (entries_of schedule))
 
 -- the waits: a record for each turn that waits, by time
 abbrev pub wait_of : history.Wait → Wait
 wait_of wait = record { call = wait.call; time = wait.time; node = wait.node; worker = wait.worker }
 
 unfoldable pub waits_of : ℕ → ℕ → List ℕ → List Wait
-waits_of workers nodes schedule = map wait_of (history.waits (fresh_words layout2 workers nodes) (entries_of schedule))
+waits_of workers nodes schedule = map wait_of (history.waits (fresh_words workers nodes) (entries_of schedule))
 
 -- a row that the caller lends: what is told stands first, and the rest stays; a refusal leaves all of it
 abbrev pub told : {A : Type 0} → List A → List A → List A
@@ -151,4 +151,4 @@ totals_values totals = totals.entries ∷ totals.refused ∷ totals.waits ∷ to
 
 -- demand 3, of a run that is done: it begins with an empty set
 abbrev pub DoneLinearizable : Result Totals Refusal → ℕ → ℕ → List ℕ → Type 0
-DoneLinearizable answer workers nodes schedule = OnOk answer (Linearizable [] (fresh_words layout2 workers nodes) (entries_of schedule))
+DoneLinearizable answer workers nodes schedule = OnOk answer (Linearizable [] (fresh_words workers nodes) (entries_of schedule))

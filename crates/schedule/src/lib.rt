@@ -2,7 +2,7 @@
 #![tactic(auto)]
 
 ghost use Rattle.std.specs.Prelude.{◌≡◌, true, ◌*◌, ◌/◌, ◌%◌, ◌≤◌, length};
-ghost use Rattle.words.specs.Layout.{layout2, good_counts, total};
+ghost use Rattle.words.specs.Layout.{good_counts, total};
 ghost use Rattle.words.specs.Replies.{reply};
 ghost use Rattle.arena.specs.Init.{fresh_words};
 ghost use Rattle.linear.specs.Entries.{is_turn};
@@ -14,8 +14,8 @@ ghost use Rattle.words.specs.Entries.{entries_of};
 ghost use Rattle.schedule.specs.Run.{totals_values, run_answer, run_arena, run_call_words, run_wait_words, DoneLinearizable};
 
 use book::Book;
+use words::Entry;
 use words::flat::Record;
-use words::{Entry, layout};
 use worker::Refusal;
 
 mod book;
@@ -102,21 +102,21 @@ fn run_entries(
     history: &mut [u16],
     waits: &mut [u16],
 ) -> Totals
-    requires good { good_counts layout2 workers nodes ≡ true }
-    requires just_its_words { length arena.old ≡ total layout2 workers nodes }
+    requires good { good_counts workers nodes ≡ true }
+    requires just_its_words { length arena.old ≡ total workers nodes }
     requires few_entries { length schedule.now ≤ 16000 }
     requires room_for_calls { call_width * count_in is_operation (entries_of schedule.now) ≤ length history.old }
     requires room_for_waits { wait_width * count_in is_turn (entries_of schedule.now) ≤ length waits.old }
     ensures words { arena.new
-        ≡ arena_at (fresh_words layout2 workers nodes) (entries_of schedule.now) (length (entries_of schedule.now)) }
+        ≡ arena_at (fresh_words workers nodes) (entries_of schedule.now) (length (entries_of schedule.now)) }
     ensures calls { history.new
         ≡ told (flat_words call_words (records_of workers nodes schedule.now)) history.old }
     ensures waits { waits.new
         ≡ told (flat_words wait_words (waits_of workers nodes schedule.now)) waits.old }
-    ensures totals { result ≡ totals_of (totals (fresh_words layout2 workers nodes) (entries_of schedule.now)) }
+    ensures totals { result ≡ totals_of (totals (fresh_words workers nodes) (entries_of schedule.now)) }
 {
     // The counts are good and the words enough, so it is accepted.
-    let _ = arena::init(arena, layout::LAYOUT_2, workers, nodes);
+    let _ = arena::init(arena, workers, nodes);
     let mut book = Book::new();
     let entries = Entry::all(schedule);
     for (done, words) in entries.iter().enumerate() {

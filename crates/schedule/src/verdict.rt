@@ -2,14 +2,13 @@
 ghost use Rattle.std.specs.Prelude.{◌≡◌, [], leb, IfOk};
 ghost use Rattle.std.specs.List.{count_by};
 ghost use Rattle.worker.specs.Worker.{within};
-ghost use Rattle.words.specs.Layout.{layout2};
 ghost use Rattle.words.specs.Replies.{no_values, reply, replied};
 ghost use Rattle.words.specs.Entries.{entries_of, first_entry};
 ghost use Rattle.schedule.specs.Run.{is_bad_schedule, count_in, run_refusals};
 
 use words::Entry;
 use words::flat::Record;
-use words::layout::{Counts, LAYOUT_2};
+use words::layout::Counts;
 use worker::{Refusal, Worker};
 
 const MOST_WORDS: usize = Entry::WIDTH * Entry::MOST;
@@ -26,9 +25,9 @@ pub(crate) fn run_verdict(
 ) -> Result<Counts, Refusal>
     ensures answer { reply no_values result
         ≡ replied (run_refusals arena.now workers nodes schedule.now call_room wait_room) [] }
-    ensures counts { IfOk result (λ counts. (counts.layout ≡ layout2) × (counts.workers ≡ workers) × (counts.nodes ≡ nodes)) }
+    ensures counts { IfOk result (λ counts. (counts.workers ≡ workers) × (counts.nodes ≡ nodes)) }
 {
-    let counts = Counts::new(LAYOUT_2, workers, nodes).ok_or(Refusal::BadCounts)?;
+    let counts = Counts::new(workers, nodes).ok_or(Refusal::BadCounts)?;
     if is_bad(schedule) {
         return Err(Refusal::BadSchedule);
     }

@@ -9,7 +9,7 @@ use lib.Dec.{eqb}
 use Rattle.std.specs.Prelude.{Result, Ok, Err}
 use Rattle.worker.specs.Refusals.{Test, refusal_number, judged}
 use Rattle.worker.specs.declared.refusal.Refusal.{Refusal}
-use Rattle.worker.specs.declared.refusal.Refusal.TheVariants.{ShortArena, OddHeader, NoSuchWorker, Busy, BadCall, BrokenRecord, BrokenChain, NoRoom, BadSchedule, BadCounts, LengthsMissing, BrokenCount}
+use Rattle.worker.specs.declared.refusal.Refusal.TheVariants.{ShortArena, OddHeader, NoSuchWorker, Busy, BadCall, BrokenRecord, BrokenChain, NoRoom, BadSchedule, BadCounts, OldLayout, BrokenCount}
 use Rattle.worker.proofs.RefusalLaws.{NoneHolds, judged_append, judged_passed}
 use Rattle.words.specs.Replies.{Reply, refused, accepted, refusing, reply, replied}
 
@@ -28,7 +28,7 @@ numbered number =
     ∷ BadSchedule
     ∷ BadCounts
     ∷ [])
-    (number - 1) (cond (eqb number 13) LengthsMissing BrokenCount)
+    (number - 1) (cond (eqb number 12) OldLayout BrokenCount)
 
 numbered_back : (refusal : Refusal) → numbered (refusal_number refusal) ≡ refusal
 unfolding numbered
@@ -42,7 +42,7 @@ numbered_back BrokenChain = refl
 numbered_back NoRoom = refl
 numbered_back BadSchedule = refl
 numbered_back BadCounts = refl
-numbered_back LengthsMissing = refl
+numbered_back OldLayout = refl
 numbered_back BrokenCount = refl
 
 settled : {A : Type 0} → Reply → (Refusal → A) → A → A

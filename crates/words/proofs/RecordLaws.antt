@@ -1,44 +1,60 @@
--- Laws of records: how many words a node has, and a worker's record in an arena.
+-- Laws of records: a node that there is not, and a worker's record in an arena.
 use Prim.Native.Nat.{ℕ, ◌+◌, ◌*◌, ◌≤◌, ◌<◌}
 use mathlib.Core.Path.{◌≡◌, refl, sym, subst, ◌∙◌}
 use mathlib.Core.Logic.{⊎_elim}
-use mathlib.Core.List.{List, [], ◌∷◌}
+use mathlib.Core.List.{List}
+use mathlib.Core.Bool.{Bool, true, false, cond}
 use native.Mathlib.Omega.{arith}
 use native.Mathlib.Nat.{add-zero}
 use lib.ListN.{length, take, drop, get_or-eq_default}
-use lib.Seq.{sets, get_or-take, get_or-drop, length-take-le}
-use mathlib.Core.Bool.{Bool, true, false, cond}
+use lib.Seq.{sets, get_or-take, get_or-drop}
+use lib.Dec.{ltb}
+use borrow.Author.Tests.{ltb-false}
+use Rattle.std.specs.Prelude.{Some, None}
 use Rattle.worker.specs.Node.{unused_node}
 use Rattle.worker.specs.declared.Node.{Node}
 use Rattle.worker.specs.declared.Worker.{Worker}
-use Rattle.words.specs.Layout.{word, header_width, worker_width, worker_stage, worker_operation, worker_key, worker_pred, worker_curr, worker_spare, worker_answer, worker_length, worker_from, slot, has_length, workers_of, worker_part}
-use Rattle.words.specs.Records.{node_words, node_at, worker_words, worker_at, with_worker, Outside}
+use Rattle.words.specs.Layout.{word, node_width, header_width, worker_width, worker_stage, worker_operation, worker_key, worker_pred, worker_curr, worker_spare, worker_answer, worker_length, worker_from, slot, workers_of, worker_part}
+use Rattle.words.specs.Records.{node_read, node_at, node_found, worker_words, worker_at, with_worker, Outside}
 use Rattle.words.proofs.Slots.{slot_within}
 use Rattle.words.proofs.Runs.{sets_outside, sets_at, run, sets_run}
 
--- a node has as many words as its width says
-pub node_long : (width : ℕ) (n : Node) → width ≤ 5 → length (node_words width n) ≡ width
-node_long width n few = length-take-le width (n.key ∷ n.next ∷ n.mark ∷ n.owner ∷ n.length ∷ []) few
-
 -- where there are no words for a node, it is read as zeros
-pub no_node_there : (width : ℕ) (l : List ℕ) (node : ℕ) → length l ≤ width * node → node_at width l node ≡ unused_node
-unfolding node_at
-no_node_there width l node past =
-    λ i.
-    record {
+pub no_node_there : (l : List ℕ) (at : ℕ) → length l ≤ at → node_read l at ≡ unused_node
+no_node_there l at past =
+    λ i. record {
       key = zero_at 0 i;
       next = zero_at 1 i;
       mark = zero_at 2 i;
       owner = zero_at 3 i;
-      length = longer (has_length width) i;
+      length = zero_at 4 i;
     }
   where
-    zero_at : (f : ℕ) → word l (slot width node f) ≡ 0
+    zero_at : (f : ℕ) → word l (at + f) ≡ 0
     zero_at f = get_or-eq_default l 0 (omega arith)
 
-    longer : (t : Bool) → cond t (word l (slot width node 4)) 0 ≡ 0
-    longer true = zero_at 4
-    longer false = refl
+-- what finding a node says
+module _ (nodes : ℕ → Node) (count node : ℕ) where
+  pub found_is : (n : Node) → node_found nodes count node ≡ Some n → (ltb node count ≡ true) × (n ≡ nodes node)
+  found_is n = go (ltb node count)
+    where
+      go : (t : Bool) → cond t (Some (nodes node)) None ≡ Some n → (t ≡ true) × (n ≡ nodes node)
+      go true e = (refl, cc)
+      go false e = let z : ◌≡◌ {A = ℕ} 0 1 = cc in absurd (omega arith)
+
+  pub found_none : node_found nodes count node ≡ None → ltb node count ≡ false
+  found_none = go (ltb node count)
+    where
+      go : (t : Bool) → cond t (Some (nodes node)) None ≡ None → t ≡ false
+      go true e = let z : ◌≡◌ {A = ℕ} 0 1 = cc in absurd (omega arith)
+      go false e = refl
+
+-- where there is no node of that number, its record is read as zeros
+pub not_found : (l : List ℕ) (count node : ℕ) → length l ≡ node_width * count → node_found (node_at l) count node ≡ None →
+    node_at l node ≡ unused_node
+unfolding node_at
+not_found l count node long none =
+    let out = ltb-false node count (found_none (node_at l) count node none) in no_node_there l (node_width * node) (omega arith)
 
 -- a worker's record of given words
 abbrev pub record_of : (ℕ → ℕ) → Worker

@@ -1,5 +1,5 @@
--- The word layout of an arena (document 01: board): a header, then worker records, then node records.
-use Rattle.std.specs.Prelude.{ℕ, ◌+◌, ◌*◌, ◌-◌, List, [], ◌∷◌, Bool, cond, ◌&&◌, get_or, take, drop, ltb, eqb, Option, Some, None}
+-- The word layout of an arena (document 01: board; document 02, A2 and A6: layout 2): a header, then worker records, then node records.
+use Rattle.std.specs.Prelude.{ℕ, ◌+◌, ◌*◌, ◌-◌, List, [], ◌∷◌, Bool, ◌&&◌, get_or, take, drop}
 use Rattle.worker.specs.Worker.{within}
 
 -- the word at a place, counted from 0; past the end there are zeros
@@ -13,16 +13,19 @@ header_width = 8
 abbrev pub worker_width : ℕ
 worker_width = 8
 
--- layouts: 1, and 2, in which a node has a length (document 02, A2) and the header a count (A6)
+-- layouts: 2, in which a node has a length and the header a count; and 1, the old one, which the converters keep (document 02, A8)
 abbrev pub layout1 : ℕ
 layout1 = 1
 
 abbrev pub layout2 : ℕ
 layout2 = 2
 
--- words of a node record, by layout number: 4 in layout 1, 5 in layout 2, and 0 where there is no such layout
-unfoldable pub node_width : ℕ → ℕ
-node_width layout = cond (eqb layout layout1) 4 (cond (eqb layout layout2) 5 0)
+-- words of a node record; in layout 1 it has none for a length
+abbrev pub node_width : ℕ
+node_width = 5
+
+abbrev pub old_node_width : ℕ
+old_node_width = 4
 
 -- fields of a worker record: stage, operation, key, pred, curr, spare, answer, length
 abbrev pub worker_stage : ℕ
@@ -49,7 +52,7 @@ worker_answer = 6
 abbrev pub worker_length : ℕ
 worker_length = 7
 
--- fields of a node record: key, next, mark, owner, and in layout 2 length
+-- fields of a node record: key, next, mark, owner, length
 abbrev pub node_key : ℕ
 node_key = 0
 
@@ -65,50 +68,49 @@ node_owner = 3
 abbrev pub node_length : ℕ
 node_length = 4
 
--- records of so many words have one for the length
-abbrev pub has_length : ℕ → Bool
-has_length width = ltb node_length width
-
 -- where the record of a worker stands
 abbrev pub worker_from : ℕ → ℕ
 worker_from worker = header_width + worker_width * worker
 
--- where a field of a node stands among the node records
+-- where a field of a record stands among records of so many words
 abbrev pub slot : ℕ → ℕ → ℕ → ℕ
-slot width node field = width * node + field
+slot width number field = width * number + field
 
--- offset of the node records (8 + 8W), and total (8 + 8W + 4N; in layout 2 8 + 8W + 5N)
+-- offset of the node records (8 + 8W), and total (8 + 8W + 5N; in layout 1 8 + 8W + 4N)
 abbrev pub nodes_from : ℕ → ℕ
 nodes_from workers = worker_from workers
 
-abbrev pub total : ℕ → ℕ → ℕ → ℕ
-total layout workers nodes = nodes_from workers + node_width layout * nodes
+abbrev pub total : ℕ → ℕ → ℕ
+total workers nodes = nodes_from workers + node_width * nodes
 
--- the layout is 1 or 2, W is 1 to 8 and N is 3 to 1,024
-abbrev pub good_counts : ℕ → ℕ → ℕ → Bool
-good_counts layout workers nodes = within layout1 layout2 layout && within 1 8 workers && within 3 1024 nodes
+abbrev pub old_total : ℕ → ℕ → ℕ
+old_total workers nodes = nodes_from workers + old_node_width * nodes
 
--- headers of a layout have a count, the size of the set (document 02, A6)
-abbrev pub has_count : ℕ → Bool
-has_count layout = eqb layout layout2
+-- W is 1 to 8 and N is 3 to 1,024
+abbrev pub good_counts : ℕ → ℕ → Bool
+good_counts workers nodes = within 1 8 workers && within 3 1024 nodes
 
--- it is at most N less 2; where there is none, its word is 0
-abbrev pub most_stored : ℕ → ℕ → ℕ
-most_stored layout nodes = cond (has_count layout) (nodes - 2) 0
+-- the count, which is the size of the set, is at most N less 2 (document 02, A6)
+abbrev pub most_stored : ℕ → ℕ
+most_stored nodes = nodes - 2
 
--- the header: layout, W, N, offset of the worker records (8), offset of the node records, total, count, 0
-unfoldable pub header_words : ℕ → ℕ → ℕ → ℕ → List ℕ
-header_words layout workers nodes stored =
-    layout ∷ workers ∷ nodes ∷ header_width ∷ nodes_from workers ∷ total layout workers nodes ∷ stored ∷ 0 ∷ []
+-- a header: layout, W, N, offset of the worker records (8), offset of the node records, total, count, 0
+abbrev pub header_with : ℕ → ℕ → ℕ → ℕ → ℕ → List ℕ
+header_with layout workers nodes total stored =
+    layout ∷ workers ∷ nodes ∷ header_width ∷ nodes_from workers ∷ total ∷ stored ∷ 0 ∷ []
+
+unfoldable pub header_words : ℕ → ℕ → ℕ → List ℕ
+header_words workers nodes stored = header_with layout2 workers nodes (total workers nodes) stored
+
+-- that of an old arena, which has no count
+unfoldable pub old_header_words : ℕ → ℕ → List ℕ
+old_header_words workers nodes = header_with layout1 workers nodes (old_total workers nodes) 0
 
 -- where the count stands
 abbrev pub stored_at : ℕ
 stored_at = 6
 
 -- the header words of an arena as they stand
-abbrev pub layout_of : List ℕ → ℕ
-layout_of arena = word arena 0
-
 abbrev pub workers_of : List ℕ → ℕ
 workers_of arena = word arena 1
 
@@ -124,10 +126,6 @@ total_of arena = word arena 5
 abbrev pub stored_of : List ℕ → ℕ
 stored_of arena = word arena stored_at
 
--- the count of an arena, if there is one
-abbrev pub stored_in : List ℕ → Option ℕ
-stored_in arena = cond (has_count (layout_of arena)) (Some (stored_of arena)) None
-
 -- the worker records: the part behind the header
 unfoldable pub worker_part : List ℕ → List ℕ
 worker_part arena = take (worker_width * workers_of arena) (drop header_width arena)
@@ -138,4 +136,4 @@ node_part arena = take (total_of arena - nodes_from_of arena) (drop (nodes_from_
 
 -- where a field of a node stands in an arena
 unfoldable pub node_from : List ℕ → ℕ → ℕ → ℕ
-node_from arena node field = nodes_from_of arena + slot (node_width (layout_of arena)) node field
+node_from arena node field = nodes_from_of arena + slot node_width node field

@@ -1,9 +1,9 @@
 -- Worker and node records as words of an arena.
-use Rattle.std.specs.Prelude.{ℕ, ◌+◌, ◌*◌, ◌≤◌, ◌<◌, ◌⊎◌, List, [], ◌∷◌, Option, Some, None, cond, length, take, ltb}
+use Rattle.std.specs.Prelude.{ℕ, ◌+◌, ◌*◌, ◌≤◌, ◌<◌, ◌≡◌, ◌⊎◌, List, [], ◌∷◌, Option, Some, None, cond, length, ltb}
 use Rattle.std.proofs.lemmas.List.Edits.{sets}
 use Rattle.worker.specs.declared.Node.{Node}
 use Rattle.worker.specs.declared.Worker.{Worker}
-use Rattle.words.specs.Layout.{word, worker_stage, worker_operation, worker_key, worker_pred, worker_curr, worker_spare, worker_answer, worker_length, node_key, node_next, node_mark, node_owner, node_length, has_length, worker_width, worker_from, slot, node_width, layout_of, node_from}
+use Rattle.words.specs.Layout.{word, worker_stage, worker_operation, worker_key, worker_pred, worker_curr, worker_spare, worker_answer, worker_length, node_key, node_next, node_mark, node_owner, node_length, worker_width, worker_from, node_width, node_from}
 
 -- worker record, 8 words: stage, operation, key, pred, curr, spare, answer, length
 abbrev pub worker_words : Worker → List ℕ
@@ -32,35 +32,33 @@ with_worker arena worker w = sets arena (worker_from worker) (worker_words w)
 abbrev pub Outside : ℕ → ℕ → Type 0
 Outside worker at = (at < worker_from worker) ⊎ (worker_from worker + worker_width ≤ at)
 
--- node record, by its width: key, next, mark, owner, and in layout 2 length
-abbrev pub node_words : ℕ → Node → List ℕ
-node_words width n = take width (n.key ∷ n.next ∷ n.mark ∷ n.owner ∷ n.length ∷ [])
+-- node record, 5 words: key, next, mark, owner, length
+abbrev pub node_words : Node → List ℕ
+node_words n = n.key ∷ n.next ∷ n.mark ∷ n.owner ∷ n.length ∷ []
 
 -- the arena with a node written
 unfoldable pub with_node : List ℕ → ℕ → Node → List ℕ
-with_node arena node n = sets arena (node_from arena node node_key) (node_words (node_width (layout_of arena)) n)
+with_node arena node n = sets arena (node_from arena node node_key) (node_words n)
 
--- a node, read from the part of an arena that holds the node records, each of some width; a length that has no word is 0
-unfoldable pub node_at : ℕ → List ℕ → ℕ → Node
-node_at width nodes node =
+-- the node whose record begins at a place
+abbrev pub node_read : List ℕ → ℕ → Node
+node_read words at =
     record {
-      key = word nodes (slot width node node_key);
-      next = word nodes (slot width node node_next);
-      mark = word nodes (slot width node node_mark);
-      owner = word nodes (slot width node node_owner);
-      length = cond (has_length width) (word nodes (slot width node node_length)) 0;
+      key = word words (at + node_key);
+      next = word words (at + node_next);
+      mark = word words (at + node_mark);
+      owner = word words (at + node_owner);
+      length = word words (at + node_length);
     }
 
--- the part has words for the key, next, mark and owner of each of so many nodes, and the nodes can be counted
-abbrev pub Spans : ℕ → ℕ → List ℕ → Type 0
-Spans width count nodes = (node_owner < width) × (width * count ≤ length nodes) × (count ≤ 1024)
+-- a node, read from the part of an arena that holds the node records
+unfoldable pub node_at : List ℕ → ℕ → Node
+node_at nodes node = node_read nodes (node_width * node)
 
--- the node of a number, if there is one
-abbrev pub node_found : ℕ → List ℕ → ℕ → ℕ → Option Node
-node_found width nodes count node = cond (ltb node count) (Some (node_at width nodes node)) None
+-- the part has just the words of so many nodes, and the nodes can be counted
+abbrev pub Spans : ℕ → List ℕ → Type 0
+Spans count nodes = (length nodes ≡ node_width * count) × (count ≤ 1024)
 
-abbrev pub key_at : ℕ → List ℕ → ℕ → ℕ
-key_at width nodes node = (node_at width nodes node).key
-
-abbrev pub next_at : ℕ → List ℕ → ℕ → ℕ
-next_at width nodes node = (node_at width nodes node).next
+-- of nodes by their number, the first so many of which there are: the node of a number, if there is one
+abbrev pub node_found : (ℕ → Node) → ℕ → ℕ → Option Node
+node_found nodes count node = cond (ltb node count) (Some (nodes node)) None

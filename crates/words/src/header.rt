@@ -1,9 +1,9 @@
 // An arena behind the header test, which every entry point but init begins with.
-ghost use Rattle.std.specs.Prelude.{◌≡◌, ◌≤◌, [], length, IfOk};
-ghost use Rattle.words.specs.Layout.{header_width, workers_of, nodes_of, layout_of, stored_in, node_width, node_part};
-ghost use Rattle.words.specs.Records.{Spans, worker_at};
+ghost use Rattle.std.specs.Prelude.{◌≡◌, ◌≤◌, [], length, true, IfOk, IfSome, is_some};
+ghost use Rattle.words.specs.Layout.{header_width, workers_of, nodes_of, stored_of, good_counts, node_part};
+ghost use Rattle.words.specs.Records.{worker_at};
 ghost use Rattle.words.specs.Replies.{accepted, no_values, reply, replied};
-ghost use Rattle.words.specs.Header.{agrees, is_header, header_refusals};
+ghost use Rattle.words.specs.Header.{agrees, is_short, is_header, is_old_header, header_refusals};
 
 use crate::layout::{self, Counts};
 use crate::{Nodes, records, word};
@@ -17,25 +17,22 @@ pub struct Arena<'a> {
 }
 
 impl<'a> Arena<'a> {
-    #[tactic(auto, unfolding(crate::specs::Header::header_refusals))]
+    // An arena in order is told first, for speed; a header is of one layout only.
+    #[tactic(auto, unfolding(crate::specs::Header::header_refusals), using(crate::proofs::HeaderLaws::not_both))]
     pub fn new(words: &'a [u16]) -> Result<Arena<'a>, Refusal>
         ensures answer { reply no_values result ≡ replied (header_refusals words.now) [] }
         ensures words { IfOk result (λ arena. arena.words.now ≡ words.now) }
     {
-        let total = word(words, layout::TOTAL_AT) as usize;
-        if (words.len() < layout::HEADER_WIDTH) | (words.len() < total) {
+        if is_short(words) {
             return Err(Refusal::ShortArena);
         }
-        if !is_header(words) {
-            return Err(Refusal::OddHeader);
+        if is_header(words) {
+            return Ok(Arena { words });
         }
-        Ok(Arena { words })
-    }
-
-    pub fn layout(self) -> u16
-        ensures { result ≡ layout_of self.entry.words.now }
-    {
-        word(self.words, layout::LAYOUT_AT)
+        if is_old_header(words) {
+            return Err(Refusal::OldLayout);
+        }
+        Err(Refusal::OddHeader)
     }
 
     // W.
@@ -45,15 +42,11 @@ impl<'a> Arena<'a> {
         word(self.words, layout::WORKERS_AT)
     }
 
-    // How many labels the header counts, if it does.
-    pub fn stored(self) -> Option<u16>
-        ensures { result ≡ stored_in self.entry.words.now }
+    // How many labels the header counts.
+    pub fn stored(self) -> u16
+        ensures { result ≡ stored_of self.entry.words.now }
     {
-        if layout::has_count(word(self.words, layout::LAYOUT_AT)) {
-            Some(word(self.words, layout::STORED_AT))
-        } else {
-            None
-        }
+        word(self.words, layout::STORED_AT)
     }
 
     pub fn worker(self, number: u16) -> Worker
@@ -65,32 +58,56 @@ impl<'a> Arena<'a> {
     // The node records, where the header places them.
     pub fn nodes(self) -> Nodes<'a>
         ensures words { result.words.now ≡ node_part self.entry.words.now }
-        ensures width { result.width ≡ node_width (layout_of self.entry.words.now) }
         ensures count { result.count ≡ nodes_of self.entry.words.now }
     {
         let from = word(self.words, layout::NODES_FROM_AT) as usize;
         let total = word(self.words, layout::TOTAL_AT) as usize;
         Nodes {
             words: &self.words[from..total],
-            width: layout::node_width(word(self.words, layout::LAYOUT_AT)),
             count: word(self.words, layout::NODES_AT),
         }
     }
 }
 
+// Fewer words than a header has, or than this one says.
+pub fn is_short(arena: &[u16]) -> bool
+    ensures { result ≡ is_short arena.now }
+{
+    let total = word(arena, layout::TOTAL_AT) as usize;
+    (arena.len() < layout::HEADER_WIDTH) | (arena.len() < total)
+}
+
 // The first words are the header that their own numbers give.
 #[tactic(auto, unfolding(crate::specs::Header::is_header))]
-fn is_header(arena: &[u16]) -> bool
+pub fn is_header(arena: &[u16]) -> bool
     ensures { result ≡ is_header arena.now }
 {
-    let layout = word(arena, layout::LAYOUT_AT);
-    let workers = word(arena, layout::WORKERS_AT);
-    let nodes = word(arena, layout::NODES_AT);
     let stored = word(arena, layout::STORED_AT);
-    match Counts::new(layout, workers, nodes) {
+    match own_counts(arena) {
         Some(counts) => (stored <= counts.most_stored()) & agree(arena, &counts.header(stored)),
         None => false,
     }
+}
+
+// Or the one of layout 1. Cold, for no turn asks it: built into the header test, it made a turn a tenth slower.
+#[cold]
+#[tactic(auto, unfolding(crate::specs::Header::is_old_header))]
+pub fn is_old_header(arena: &[u16]) -> bool
+    ensures { result ≡ is_old_header arena.now }
+{
+    match own_counts(arena) {
+        Some(counts) => agree(arena, &counts.old_header()),
+        None => false,
+    }
+}
+
+fn own_counts(arena: &[u16]) -> Option<Counts>
+    ensures good { is_some result ≡ good_counts (workers_of arena.now) (nodes_of arena.now) }
+    ensures same { IfSome result (λ counts. (counts.workers ≡ workers_of arena.now) × (counts.nodes ≡ nodes_of arena.now)) }
+{
+    let workers = word(arena, layout::WORKERS_AT);
+    let nodes = word(arena, layout::NODES_AT);
+    Counts::new(workers, nodes)
 }
 
 // Whether the first words are these. Slices compared by `==` were tried: it is a call with a loop in it, and a turn took half as long again.

@@ -1,7 +1,6 @@
 // The word layout: where the header's words and the records stand.
-ghost use Rattle.std.specs.Prelude.{◌≡◌, ◌*◌, true, is_some, IfSome};
-ghost use Rattle.worker.specs.Worker.{within};
-ghost use Rattle.words.specs.Layout.{layout1, layout2, node_width, has_length, has_count, worker_from, slot, total, good_counts, most_stored, header_words};
+ghost use Rattle.std.specs.Prelude.{◌≡◌, ◌≤◌, ◌+◌, ◌*◌, true, is_some, IfSome};
+ghost use Rattle.words.specs.Layout.{node_width, worker_from, slot, total, good_counts, most_stored, header_with, header_words, old_header_words};
 
 // Header words.
 pub const LAYOUT_AT: usize = 0;
@@ -21,10 +20,15 @@ pub const HEADER_WIDTH: usize = 8;
 
 pub const WORKER_WIDTH: usize = 8;
 
-// The layouts; in layout 2 a node has a length and the header a count. Numbers and no enum, as the C interface asks for any.
+// The layouts: an arena's, and the old one, which the converters keep.
 pub const LAYOUT_1: u16 = 1;
 
 pub const LAYOUT_2: u16 = 2;
+
+// Words of a node record, and of one of layout 1.
+pub const NODE_WIDTH: u16 = 5;
+
+pub const OLD_NODE_WIDTH: u16 = 4;
 
 // Fields of a worker record.
 pub const WORKER_STAGE: u16 = 0;
@@ -52,37 +56,6 @@ pub const NODE_MARK: u16 = 2;
 
 pub const NODE_OWNER: u16 = 3;
 
-pub const NODE_LENGTH: u16 = 4;
-
-// Words of a node record: 4 in layout 1, 5 in layout 2, and 0 for any other header word, as in the definition. By a sum, since the compiler
-// drops the test where the layout is known to be one.
-#[tactic(auto, unfolding(crate::specs::Layout::node_width))]
-pub fn node_width(layout: u16) -> u16
-    ensures { result ≡ node_width layout }
-{
-    if is_layout(layout) { layout + 3 } else { 0 }
-}
-
-fn is_layout(layout: u16) -> bool
-    ensures { result ≡ within layout1 layout2 layout }
-{
-    (LAYOUT_1..=LAYOUT_2).contains(&layout)
-}
-
-// Whether records of so many words have one for the length.
-pub fn has_length(width: u16) -> bool
-    ensures { result ≡ has_length width }
-{
-    NODE_LENGTH < width
-}
-
-// Whether headers of a layout have a count, the size of the set.
-pub fn has_count(layout: u16) -> bool
-    ensures { result ≡ has_count layout }
-{
-    layout == LAYOUT_2
-}
-
 // Where a worker's record stands.
 pub fn worker_from(worker: u16) -> usize
     ensures { result ≡ worker_from worker }
@@ -91,47 +64,42 @@ pub fn worker_from(worker: u16) -> usize
 }
 
 // Words of so many records.
-pub fn span(width: u16, count: u16) -> u32
+pub fn span(width: u16, count: u16) -> usize
     ensures { result ≡ width * count }
 {
-    (width as u32) * (count as u32)
+    (width as usize) * (count as usize)
 }
 
 // Where a field of a node stands among the node records.
-pub fn slot(width: u16, node: u16, field: u16) -> usize
-    ensures { result ≡ slot width node field }
+pub fn slot(node: u16, field: u16) -> usize
+    ensures { result ≡ slot node_width node field }
 {
-    (span(width, node) as usize) + (field as usize)
+    span(NODE_WIDTH, node) + (field as usize)
 }
 
 // Words of an arena.
-pub fn total(layout: u16, workers: u16, nodes: u16) -> usize
-    ensures { result ≡ total layout workers nodes }
+pub fn total(workers: u16, nodes: u16) -> usize
+    ensures { result ≡ total workers nodes }
 {
-    worker_from(workers) + (span(node_width(layout), nodes) as usize)
+    worker_from(workers) + span(NODE_WIDTH, nodes)
 }
 
-// The layout of an arena, W and N, within document 01's limits.
+// W and N of an arena, within document 01's limits.
 #[derive(Clone, Copy)]
 pub struct Counts {
-    pub layout: u16,
     pub workers: u16,
     pub nodes: u16,
-    ghost good: { good_counts layout workers nodes ≡ true },
+    ghost good: { good_counts workers nodes ≡ true },
 }
 
 impl Counts {
     // That they are those that were asked for no type says, so a clause does.
-    pub fn new(layout: u16, workers: u16, nodes: u16) -> Option<Counts>
-        ensures good { is_some result ≡ good_counts layout workers nodes }
-        ensures same { IfSome result (λ counts. (counts.layout ≡ layout) × (counts.workers ≡ workers) × (counts.nodes ≡ nodes)) }
+    pub fn new(workers: u16, nodes: u16) -> Option<Counts>
+        ensures good { is_some result ≡ good_counts workers nodes }
+        ensures same { IfSome result (λ counts. (counts.workers ≡ workers) × (counts.nodes ≡ nodes)) }
     {
-        if is_layout(layout) & (1..=8).contains(&workers) & (3..=1024).contains(&nodes) {
-            Some(Counts {
-                layout,
-                workers,
-                nodes,
-            })
+        if (1..=8).contains(&workers) & (3..=1024).contains(&nodes) {
+            Some(Counts { workers, nodes })
         } else {
             None
         }
@@ -139,35 +107,46 @@ impl Counts {
 
     // Words of the arena.
     pub fn total(self) -> usize
-        ensures { result ≡ total self.layout self.workers self.nodes }
+        ensures { result ≡ total self.workers self.nodes }
     {
-        total(self.layout, self.workers, self.nodes)
+        total(self.workers, self.nodes)
     }
 
     // The largest count of a header.
     pub fn most_stored(self) -> u16
-        ensures { result ≡ most_stored self.layout self.nodes }
+        ensures { result ≡ most_stored self.nodes }
     {
-        if has_count(self.layout) {
-            self.nodes - 2
-        } else {
-            0
-        }
+        self.nodes - 2
     }
 
     // The header of an arena with so many labels.
     #[tactic(auto, unfolding(crate::specs::Layout::header_words))]
     pub fn header(self, stored: u16) -> [u16; 8]
-        ensures { result ≡ header_words self.layout self.workers self.nodes stored }
+        ensures { result ≡ header_words self.workers self.nodes stored }
+    {
+        self.header_with(LAYOUT_2, NODE_WIDTH, stored)
+    }
+
+    // And of one of layout 1.
+    #[tactic(auto, unfolding(crate::specs::Layout::old_header_words))]
+    pub fn old_header(self) -> [u16; 8]
+        ensures { result ≡ old_header_words self.workers self.nodes }
+    {
+        self.header_with(LAYOUT_1, OLD_NODE_WIDTH, 0)
+    }
+
+    fn header_with(self, layout: u16, width: u16, stored: u16) -> [u16; 8]
+        requires { width ≤ 5 }
+        ensures { result ≡ header_with layout self.workers self.nodes (worker_from self.workers + width * self.nodes) stored }
     {
         let nodes_from = worker_from(self.workers);
         [
-            self.layout,
+            layout,
             self.workers,
             self.nodes,
             HEADER_WIDTH as u16,
             nodes_from as u16,
-            self.total() as u16,
+            (nodes_from + span(width, self.nodes)) as u16,
             stored,
             0,
         ]

@@ -14,7 +14,7 @@ pub mod layout;
 pub mod records;
 
 pub use entry::Entry;
-pub use header::Arena;
+pub use header::{Arena, is_header, is_old_header, is_short};
 pub use records::Nodes;
 
 pub fn word(words: &[u16], at: usize) -> u16

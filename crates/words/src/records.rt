@@ -1,8 +1,7 @@
 // Worker and node records, read from and written to words.
 ghost use Rattle.std.specs.Prelude.{◌+◌, ◌≡◌, set};
-ghost use Rattle.worker.specs.Node.{without_length};
 ghost use Rattle.words.specs.Records.{Spans, worker_words, worker_at, with_worker, with_node, node_at, node_found};
-ghost use Rattle.words.specs.Layout.{word, worker_from, slot, node_from};
+ghost use Rattle.words.specs.Layout.{word, worker_from, node_from};
 
 use crate::{layout, put, word, write};
 use worker::{Node, Worker};
@@ -60,8 +59,7 @@ pub fn write_worker(arena: &mut [u16], number: u16, worker: Worker)
 pub fn node_from(arena: &[u16], node: u16, field: u16) -> usize
     ensures { result ≡ node_from arena.now node field }
 {
-    let width = layout::node_width(word(arena, layout::LAYOUT_AT));
-    (word(arena, layout::NODES_FROM_AT) as usize) + layout::slot(width, node, field)
+    (word(arena, layout::NODES_FROM_AT) as usize) + layout::slot(node, field)
 }
 
 // A field of a node in an arena.
@@ -72,81 +70,48 @@ pub fn write_node_field(arena: &mut [u16], node: u16, field: u16, value: u16)
     put(arena, at, value);
 }
 
-// A node in an arena: as many of its fields as there are words for them.
+// A node in an arena.
 #[tactic(auto, unfolding(crate::specs::Records::with_node))]
 pub fn write_node(arena: &mut [u16], number: u16, node: Node)
     ensures { arena.new ≡ with_node arena.old number node }
 {
     let at = node_from(arena, number, layout::NODE_KEY);
-    let width = layout::node_width(word(arena, layout::LAYOUT_AT)) as usize;
-    let values = [node.key, node.next, node.mark, node.owner, node.length];
-    write(arena, at, &values[..width]);
+    let words = [node.key, node.next, node.mark, node.owner, node.length];
+    write(arena, at, &words);
 }
 
-// A field of a node, in any words of records of a width: not of `Nodes` alone, whose words span its nodes.
-pub fn node_field(nodes: &[u16], width: u16, node: u16, field: u16) -> u16
-    ensures { result ≡ word nodes.now (slot width node field) }
-{
-    word(nodes, layout::slot(width, node, field))
-}
-
-// A node but for its length, in any words. One test serves a node that lies inside whole.
-#[tactic(auto, unfolding(crate::specs::Records::node_at))]
-pub fn read_node(nodes: &[u16], width: u16, node: u16) -> Node
-    ensures { result ≡ without_length (node_at width nodes.now node) }
-{
-    let at = layout::slot(width, node, layout::NODE_KEY);
-    if at + 3 < nodes.len() {
-        return Node {
-            key: nodes[at],
-            next: nodes[at + 1],
-            mark: nodes[at + 2],
-            owner: nodes[at + 3],
-            length: 0,
-        };
-    }
-    Node {
-        key: node_field(nodes, width, node, layout::NODE_KEY),
-        next: node_field(nodes, width, node, layout::NODE_NEXT),
-        mark: node_field(nodes, width, node, layout::NODE_MARK),
-        owner: node_field(nodes, width, node, layout::NODE_OWNER),
-        length: 0,
-    }
-}
-
-// The node records of an arena, the part from the node offset to the total; the words of each; and how many there are.
+// The node records of an arena, the part from the node offset to the total, and how many there are.
 #[derive(Clone, Copy)]
 pub struct Nodes<'a> {
     pub words: &'a [u16],
-    pub width: u16,
     pub count: u16,
-    ghost spans: { Spans width count words.now },
+    ghost spans: { Spans count words.now },
 }
 
 impl<'a> Nodes<'a> {
-    // A node but for its length.
+    // A node. One that there is not is read as zeros.
+    #[tactic(auto, using(crate::proofs::RecordLaws::not_found))]
     pub fn get(self, node: u16) -> Node
-        ensures { result ≡ without_length (node_at self.entry.width self.entry.words.now node) }
+        ensures { result ≡ node_at self.entry.words.now node }
     {
-        read_node(self.words, self.width, node)
+        self.find(node).unwrap_or(Node::unused())
     }
 
-    // A node with its length, if there is one of that number. Its words are there, so no index is tested.
-    #[tactic(auto, unfolding(crate::specs::Records::node_at), using(crate::proofs::Slots::words_within))]
+    // A node, if there is one of that number. Its words are there, so no index is tested.
+    #[tactic(auto, unfolding(crate::specs::Records::node_at))]
     pub fn find(self, node: u16) -> Option<Node>
-        ensures { result ≡ node_found self.entry.width self.entry.words.now self.entry.count node }
+        ensures { result ≡ node_found (node_at self.entry.words.now) self.entry.count node }
     {
         if self.count <= node {
             return None;
         }
-        let at = layout::slot(self.width, node, layout::NODE_KEY);
-        let lengths = layout::has_length(self.width);
+        let at = layout::slot(node, layout::NODE_KEY);
         Some(Node {
             key: self.words[at],
             next: self.words[at + 1],
             mark: self.words[at + 2],
             owner: self.words[at + 3],
-            length: if lengths { self.words[at + 4] } else { 0 },
+            length: self.words[at + 4],
         })
     }
 }

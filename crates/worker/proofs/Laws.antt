@@ -1,9 +1,9 @@
 -- Laws that several proofs cite.
 use Prim.Native.Nat.{ℕ, ◌≤◌}
-use mathlib.Core.Path.{◌≡◌, refl, sym}
-use mathlib.Core.Bool.{Bool, true, false, cond, and-eq-true_iff}
+use mathlib.Core.Path.{◌≡◌}
+use mathlib.Core.Bool.{true, and-eq-true_iff}
 use lib.Dec.{leb}
-use borrow.Author.Tests.{le-leb, leb-true, eqb-true}
+use borrow.Author.Tests.{le-leb, leb-true}
 use Rattle.worker.specs.Worker.{within, add, contains, is_key, carries, is_call}
 
 -- a range's test, decided by the bounds
@@ -17,17 +17,9 @@ module _ (low high n : ℕ) where
       let both = (and-eq-true_iff (leb low n) (leb n high)).0 e in (leb-true low n both.0, leb-true n high both.1)
 
 -- what is known of a call
-module _ (lengths : Bool) (operation key length : ℕ) (call : is_call lengths operation key length ≡ true) where
-  pub call_parts : (within add contains operation ≡ true) × (is_key key ≡ true) × (carries lengths operation key length ≡ true)
-  call_parts =
-      let all = (and-eq-true_iff _ (carries lengths operation key length)).0 call in
-      let both = (and-eq-true_iff (within add contains operation) (is_key key)).0 all.0 in
-      (both.0, both.1, all.1)
-
-  -- where nodes have no length, its start carries none
-  pub call_length : cond lengths length 0 ≡ length
-  call_length = go lengths call_parts.2
-    where
-      go : (lengths : Bool) → carries lengths operation key length ≡ true → cond lengths length 0 ≡ length
-      go true carried = refl
-      go false carried = sym (eqb-true length 0 carried)
+pub call_parts : (operation key length : ℕ) → is_call operation key length ≡ true →
+    (within add contains operation ≡ true) × (is_key key ≡ true) × (carries operation key length ≡ true)
+call_parts operation key length call =
+    let all = (and-eq-true_iff _ (carries operation key length)).0 call in
+    let both = (and-eq-true_iff (within add contains operation) (is_key key)).0 all.0 in
+    (both.0, both.1, all.1)

@@ -1,7 +1,7 @@
 -- Refusals in the numbers and words of documents 01 and 02, and the first of them in the given order.
 use Rattle.std.specs.Prelude.{ℕ, List, [], ◌∷◌, Bool, cond, codes}
 use Rattle.worker.specs.declared.refusal.Refusal.{Refusal}
-use Rattle.worker.specs.declared.refusal.Refusal.TheVariants.{ShortArena, OddHeader, NoSuchWorker, Busy, BadCall, BrokenRecord, BrokenChain, NoRoom, BadSchedule, BadCounts, LengthsMissing, BrokenCount}
+use Rattle.worker.specs.declared.refusal.Refusal.TheVariants.{ShortArena, OddHeader, NoSuchWorker, Busy, BadCall, BrokenRecord, BrokenChain, NoRoom, BadSchedule, BadCounts, OldLayout, BrokenCount}
 
 abbrev pub refusal_number : Refusal → ℕ
 refusal_number ShortArena = 1
@@ -14,7 +14,7 @@ refusal_number BrokenChain = 7
 refusal_number NoRoom = 8
 refusal_number BadSchedule = 9
 refusal_number BadCounts = 10
-refusal_number LengthsMissing = 13
+refusal_number OldLayout = 12
 refusal_number BrokenCount = 14
 
 abbrev pub refusal_word : Refusal → List ℕ
@@ -28,7 +28,7 @@ refusal_word BrokenChain = codes "broken chain"
 refusal_word NoRoom = codes "no room"
 refusal_word BadSchedule = codes "bad schedule"
 refusal_word BadCounts = codes "bad counts"
-refusal_word LengthsMissing = codes "lengths missing"
+refusal_word OldLayout = codes "old layout"
 refusal_word BrokenCount = codes "broken count"
 
 -- a test, and the refusal where it holds

@@ -37,13 +37,13 @@ is_key key = within 1 65534 key
 abbrev pub is_length : ℕ → ℕ → Bool
 is_length key length = within 1 65534 length && leb (key + length) 65535
 
--- what a start carries: an add a length, where nodes have one; every other start 0
-abbrev pub carries : Bool → ℕ → ℕ → ℕ → Bool
-carries lengths operation key length = cond (lengths && eqb operation add) (is_length key length) (eqb length 0)
+-- what a start carries: an add a length, every other start 0
+abbrev pub carries : ℕ → ℕ → ℕ → Bool
+carries operation key length = cond (eqb operation add) (is_length key length) (eqb length 0)
 
 -- a call: operation 1 to 3, a key of calls, and what its start carries
-abbrev pub is_call : Bool → ℕ → ℕ → ℕ → Bool
-is_call lengths operation key length = within add contains operation && is_key key && carries lengths operation key length
+abbrev pub is_call : ℕ → ℕ → ℕ → Bool
+is_call operation key length = within add contains operation && is_key key && carries operation key length
 
 -- a record that has met no node yet: stage, operation, key, none three times, 0, length
 abbrev pub new_worker : ℕ → ℕ → ℕ → ℕ → Worker

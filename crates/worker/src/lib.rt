@@ -145,19 +145,19 @@ fn first_stage(operation: u16) -> u16
     }
 }
 
-// An operation that there is, on a key that a call may have, and a length that its start may carry. `lengths`: nodes have one.
-pub fn is_call(lengths: bool, operation: u16, key: u16, length: u16) -> bool
-    ensures { result ≡ is_call lengths operation key length }
+// An operation that there is, on a key that a call may have, and a length that its start may carry.
+pub fn is_call(operation: u16, key: u16, length: u16) -> bool
+    ensures { result ≡ is_call operation key length }
 {
     is_within(operation, Worker::ADD, Worker::CONTAINS)
         & is_key(key)
-        & carries(lengths, operation, key, length)
+        & carries(operation, key, length)
 }
 
-fn carries(lengths: bool, operation: u16, key: u16, length: u16) -> bool
-    ensures { result ≡ carries lengths operation key length }
+fn carries(operation: u16, key: u16, length: u16) -> bool
+    ensures { result ≡ carries operation key length }
 {
-    if lengths & (operation == Worker::ADD) {
+    if operation == Worker::ADD {
         is_length(key, length)
     } else {
         length == 0

@@ -17,7 +17,7 @@ pub enum Refusal {
     NoRoom = 8,
     BadSchedule = 9,
     BadCounts = 10,
-    LengthsMissing = 13,
+    OldLayout = 12,
     BrokenCount = 14,
 }
 
@@ -44,7 +44,7 @@ impl fmt::Display for Refusal {
             Refusal::NoRoom => "no room",
             Refusal::BadSchedule => "bad schedule",
             Refusal::BadCounts => "bad counts",
-            Refusal::LengthsMissing => "lengths missing",
+            Refusal::OldLayout => "old layout",
             Refusal::BrokenCount => "broken count",
         })
     }

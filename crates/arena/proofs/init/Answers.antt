@@ -9,13 +9,13 @@ pub returns-in_err-counts-clause-words : goal.returns-in_err-counts-clause-words
 unfolding init_arena
 returns-in_err-counts-clause-words c =
     let args = c.args in
-    sym (judged_refused (init_refusals args.arena.now args.layout args.workers args.nodes) [] _ _ c.in_err-counts.ensures.answer)
+    sym (judged_refused (init_refusals args.arena.now args.workers args.nodes) [] _ _ c.in_err-counts.ensures.answer)
 
 pub write_fresh-requires : goal.write_fresh-requires
 write_fresh-requires c =
     let told = c.in_ok-counts.ensures in
     let same = told.counts in
-    rw (same.0, same.1, same.2) (init_passed c.args.arena.now c.args.layout c.args.workers c.args.nodes told.answer).1
+    rw (same.0, same.1) (init_passed c.args.arena.now c.args.workers c.args.nodes told.answer).1
 
 pub returns-clause-words : goal.returns-clause-words
 unfolding init_arena
@@ -23,6 +23,6 @@ returns-clause-words c =
     let args = c.args in
     let told = c.in_ok-counts.ensures in
     let same = told.counts in
-    rw (same.0, same.1, same.2) at c.write_fresh.ensures
-    ∙ init_words args.arena.now args.layout args.workers args.nodes told.answer
-    ∙ sym (judged_accepted (init_refusals args.arena.now args.layout args.workers args.nodes) [] _ _ told.answer)
+    rw (same.0, same.1) at c.write_fresh.ensures
+    ∙ init_words args.arena.now args.workers args.nodes told.answer
+    ∙ sym (judged_accepted (init_refusals args.arena.now args.workers args.nodes) [] _ _ told.answer)

@@ -3,7 +3,7 @@ use Prim.Native.Nat.{ℕ, ◌-◌}
 use mathlib.Core.Path.{◌≡◌, sym, ap, ◌∙◌}
 use native.Mathlib.Omega.{arith}
 use lib.ListN.{length-replicate}
-use Rattle.words.specs.Layout.{layout2, total}
+use Rattle.words.specs.Layout.{total}
 use Rattle.words.specs.Replies.{reply}
 use Rattle.schedule.specs.Run.{totals_values}
 use Rattle.bench_print.proofs.PrintLaws.{prints_then}
@@ -41,7 +41,7 @@ print_roll-requires c =
     let args = c.args in
     let done = sym (ap (reply totals_values) c.in-Ok.is) ∙ c.run_thousand-ran.ensures.answer in
     let totals = c.in-Ok.totals in
-    let end : c.total-end.result - 0 ≡ total layout2 args.workers args.nodes = omega (arith, c.total-end.ensures) in
+    let end : c.total-end.result - 0 ≡ total args.workers args.nodes = omega (arith, c.total-end.ensures) in
     rw (end, c.run_thousand-ran.ensures.words, arena_are args.workers args.nodes args.schedule.now totals done)
     (roll_room args.workers args.nodes args.schedule.now totals done)
 
@@ -53,7 +53,7 @@ returns-in-Ok c =
     let ran = c.run_thousand-ran.ensures in
     let calls_end : c.from-in-Ok.result - 0 ≡ totals.calls = omega arith in
     let waits_end : c.from-in-Ok-2.result - 0 ≡ totals.waits = omega arith in
-    let end : c.total-end.result - 0 ≡ total layout2 args.workers args.nodes = omega (arith, c.total-end.ensures) in
+    let end : c.total-end.result - 0 ≡ total args.workers args.nodes = omega (arith, c.total-end.ensures) in
     let calls = rw (calls_end, waits_end) at c.print_calls.ensures in
     rw (← whole_text args.workers args.nodes args.schedule.now totals done ran.calls ran.waits ran.words end)
     (prints_then (prints_then c.print_totals.ensures calls) c.print_roll.ensures)

@@ -1,7 +1,7 @@
--- The last cell is one, the chain is whole and nodes have lengths: so the search was shown all labels of the set.
-use Rattle.std.proofs.Common.{rules, ◌+◌, ◌≡◌, true, [], ◌∷◌, sym}
+-- The last cell is one, and the chain is whole: so the search was shown all labels of the set.
+use Rattle.std.proofs.Common.{rules, ◌+◌, ◌≡◌, true, [], ◌∷◌}
 use Rattle.worker.specs.Worker.{within}
-use Rattle.words.specs.Layout.{has_length}
+use Rattle.words.specs.Records.{node_at}
 use Rattle.words.proofs.Judged.{none_holds}
 use Rattle.arena.specs.Sets.{set_nodes, chain_labels}
 use Rattle.arena.specs.Snapshot.{chain_broken}
@@ -15,8 +15,7 @@ unfolding cells_refusals chain_broken longest_free chain_labels
 returns c =
     let nodes = c.args.nodes in
     let told = c.in_ok-visit_labels.ensures in
-    let unbroken = (none_holds (chain_broken nodes.width nodes.words.now nodes.count ∷ []) [] told.answer).0 in
+    let unbroken = (none_holds (chain_broken (node_at nodes.words.now) nodes.count ∷ []) [] told.answer).0 in
     let is_cell : within 1 65534 c.args.last_cell ≡ true = search rules in
-    let lengths : has_length nodes.width ≡ true = sym c.if-not-has_length.ensures in
-    let shown = shown_labels nodes.width nodes.words.now nodes.count met (begun (c.args.last_cell + 1)) (set_nodes nodes.width nodes.words.now nodes.count) in
-    rw (c.found.ensures, told.visitor, c.new-search.ensures, shown, unbroken, is_cell, lengths)
+    let shown = shown_labels (node_at nodes.words.now) nodes.count met (begun (c.args.last_cell + 1)) (set_nodes (node_at nodes.words.now) nodes.count) in
+    rw (c.found.ensures, told.visitor, c.new-search.ensures, shown, unbroken, is_cell)

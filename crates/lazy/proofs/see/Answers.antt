@@ -14,7 +14,6 @@ returns-then-state-eq-TAKE_STAGE c =
       c.look_at_curr.ensures,
       c.look_at_pred.ensures,
       nodes.words,
-      nodes.width,
       nodes.count,
     )
 
@@ -27,6 +26,5 @@ returns-else-state-eq-TAKE_STAGE c =
       c.look_at_curr.ensures,
       c.look_at_pred.ensures,
       nodes.words,
-      nodes.width,
       nodes.count,
     )

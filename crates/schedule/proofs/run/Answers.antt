@@ -6,7 +6,7 @@ use native.Mathlib.Omega.{arith}
 use lib.ListN.{length}
 use lib.Seq.{length-take-le}
 use Rattle.std.proofs.lemmas.Result.{err_from_is_err_and}
-use Rattle.words.specs.Layout.{layout2, total}
+use Rattle.words.specs.Layout.{total}
 use Rattle.words.proofs.Judged.{judged_refused, judged_accepted}
 use Rattle.words.specs.Entries.{entries_of}
 use Rattle.linear.proofs.Theorem.{linearizable}
@@ -35,7 +35,7 @@ slice_bounds-run_entries-end c =
     let passed = run_passed args.arena.now args.workers args.nodes args.schedule.now (length args.history.now / call_width)
     (length args.waits.now / wait_width) [] c.in_ok-counts.ensures.answer in
     let same = c.in_ok-counts.ensures.counts in
-    let end : c.total-end.result ≡ total layout2 args.workers args.nodes = rw (same.0, same.1, same.2) at c.total-end.ensures in
+    let end : c.total-end.result ≡ total args.workers args.nodes = rw (same.0, same.1) at c.total-end.ensures in
     omega (arith, passed.fits)
 
 pub run_entries-requires : goal.run_entries-requires
@@ -45,8 +45,8 @@ run_entries-requires c =
     (length args.waits.now / wait_width) [] c.in_ok-counts.ensures.answer in
     let end = c.total-end in
     let same = c.in_ok-counts.ensures.counts in
-    let whole : end.result ≡ total layout2 args.workers args.nodes = rw (same.0, same.1, same.2) at end.ensures in
-    let just : end.result - 0 ≡ total layout2 args.workers args.nodes = omega arith in
+    let whole : end.result ≡ total args.workers args.nodes = rw (same.0, same.1) at end.ensures in
+    let just : end.result - 0 ≡ total args.workers args.nodes = omega arith in
     record {
       good = passed.counts;
       just_its_words = rw just (length-take-le _ args.arena.now passed.fits);
@@ -67,12 +67,12 @@ returns c =
     let end = c.total-end in
     let ran = c.run_entries.ensures in
     let same = c.in_ok-counts.ensures.counts in
-    let whole : end.result ≡ total layout2 args.workers args.nodes = rw (same.0, same.1, same.2) at end.ensures in
-    let just : end.result - 0 ≡ total layout2 args.workers args.nodes = omega arith in
+    let whole : end.result ≡ total args.workers args.nodes = rw (same.0, same.1) at end.ensures in
+    let just : end.result - 0 ≡ total args.workers args.nodes = omega arith in
     record {
       answer = rw ran.totals (sym (judged_accepted refusals [] _ _ told));
       words = rw (ran.words, just) (sym (judged_accepted refusals [] _ _ told));
       calls = ran.calls ∙ sym (judged_accepted refusals [] _ _ told);
       waits = ran.waits ∙ sym (judged_accepted refusals [] _ _ told);
-      linearizable = linearizable layout2 args.workers args.nodes (entries_of args.schedule.now) passed.counts;
+      linearizable = linearizable args.workers args.nodes (entries_of args.schedule.now) passed.counts;
     }

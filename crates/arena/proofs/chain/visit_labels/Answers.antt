@@ -16,10 +16,9 @@ unfolding chain_broken
 returns-in_default-clause-answer g c =
     let loop = c.loop-at in
     let first = c.get-head in
-    let nodes = c.args.nodes in
-    rw (broken nodes.width nodes.words.now nodes.count g.V.Visitor.visited c.args.visitor.now first.result first.ensures
+    rw (broken (g.R.NodeRecords.nodes c.args.records) (g.R.NodeRecords.count c.args.records) g.V.Visitor.visited c.args.visitor.now first.result first.ensures
     (loop.invariant.3
-    ∙ walk_falls nodes.width nodes.words.now nodes.count g.V.Visitor.visited loop.visitor loop.last loop.at c.loop-at-test.true
+    ∙ walk_falls (g.R.NodeRecords.nodes c.args.records) (g.R.NodeRecords.count c.args.records) g.V.Visitor.visited loop.visitor loop.last loop.at c.loop-at-test.true
     _ (sym c.find.ensures ∙ c.in-Some.is) loop.invariant.1 c.if-last-node.false))
 
 pub returns-in_default-2-clause-answer : goal.returns-in_default-2-clause-answer
@@ -27,33 +26,30 @@ unfolding chain_broken
 returns-in_default-2-clause-answer g c =
     let loop = c.loop-at in
     let first = c.get-head in
-    let nodes = c.args.nodes in
-    rw (broken nodes.width nodes.words.now nodes.count g.V.Visitor.visited c.args.visitor.now first.result first.ensures
+    rw (broken (g.R.NodeRecords.nodes c.args.records) (g.R.NodeRecords.count c.args.records) g.V.Visitor.visited c.args.visitor.now first.result first.ensures
     (loop.invariant.3
-    ∙ walk_out nodes.width nodes.words.now nodes.count g.V.Visitor.visited loop.visitor loop.last loop.at c.loop-at-test.true
+    ∙ walk_out (g.R.NodeRecords.nodes c.args.records) (g.R.NodeRecords.count c.args.records) g.V.Visitor.visited loop.visitor loop.last loop.at c.loop-at-test.true
     loop.invariant.1 (sym c.find.ensures ∙ c.in_default.is)))
 
 pub loop-at-preserved-then-node-eq0 : goal.loop-at-preserved-then-node-eq0
 loop-at-preserved-then-node-eq0 g c =
-    let loop = c.loop-at in
-    let nodes = c.args.nodes in (
+    let loop = c.loop-at in (
       omega arith,
       loop.invariant.1 - 1,
       omega (arith, loop.invariant.2, c.if-last-node.true),
       rw c.visit.ensures (loop.invariant.3
-          ∙ walk_on nodes.width nodes.words.now nodes.count g.V.Visitor.visited loop.visitor loop.last loop.at c.loop-at-test.true
+          ∙ walk_on (g.R.NodeRecords.nodes c.args.records) (g.R.NodeRecords.count c.args.records) g.V.Visitor.visited loop.visitor loop.last loop.at c.loop-at-test.true
           _ (sym c.find.ensures ∙ c.in-Some.is) loop.invariant.1 (omega (arith, loop.invariant.2)) c.if-last-node.true true (eq-eqb _ _ c.if-node-eq0.true)),
     )
 
 pub loop-at-preserved : goal.loop-at-preserved
 loop-at-preserved g c =
-    let loop = c.loop-at in
-    let nodes = c.args.nodes in (
+    let loop = c.loop-at in (
       omega arith,
       loop.invariant.1 - 1,
       omega (arith, loop.invariant.2, c.if-last-node.true),
       loop.invariant.3
-          ∙ walk_on nodes.width nodes.words.now nodes.count g.V.Visitor.visited loop.visitor loop.last loop.at c.loop-at-test.true
+          ∙ walk_on (g.R.NodeRecords.nodes c.args.records) (g.R.NodeRecords.count c.args.records) g.V.Visitor.visited loop.visitor loop.last loop.at c.loop-at-test.true
           _ (sym c.find.ensures ∙ c.in-Some.is) loop.invariant.1 (omega (arith, loop.invariant.2)) c.if-last-node.true false (ne_eqb _ _ c.if-node-eq0.false),
     )
 
@@ -62,9 +58,8 @@ unfolding chain_broken
 returns g c =
     let loop = c.loop-at in
     let first = c.get-head in
-    let nodes = c.args.nodes in
-    let all = whole nodes.width nodes.words.now nodes.count g.V.Visitor.visited c.args.visitor.now first.result first.ensures loop.visitor
+    let all = whole (g.R.NodeRecords.nodes c.args.records) (g.R.NodeRecords.count c.args.records) g.V.Visitor.visited c.args.visitor.now first.result first.ensures loop.visitor
     (loop.invariant.3
-    ∙ walk_end nodes.width nodes.words.now nodes.count g.V.Visitor.visited loop.visitor loop.last loop.at loop.invariant.1
+    ∙ walk_end (g.R.NodeRecords.nodes c.args.records) (g.R.NodeRecords.count c.args.records) g.V.Visitor.visited loop.visitor loop.last loop.at loop.invariant.1
     (omega (arith, loop.invariant.2)) c.loop-at-test.false) in
     record { answer = rw all.0; visitor = all.1 }

@@ -11,8 +11,8 @@ invariant-loop-at g l =
     (l.last < 65536)
     × (steps : ℕ)
     × (65536 ≤ l.last + steps)
-    × (told l.nodes.width l.nodes.words.now l.nodes.count g.V.Visitor.visited l.initial.visitor (walk l.nodes.width l.nodes.words.now l.nodes.count 65536 l.initial.last l.initial.at)
-    ≡ told l.nodes.width l.nodes.words.now l.nodes.count g.V.Visitor.visited l.visitor (walk l.nodes.width l.nodes.words.now l.nodes.count steps l.last l.at))
+    × (told (g.R.NodeRecords.nodes l.records) (g.R.NodeRecords.count l.records) g.V.Visitor.visited l.initial.visitor (walk (g.R.NodeRecords.nodes l.records) (g.R.NodeRecords.count l.records) 65536 l.initial.last l.initial.at)
+    ≡ told (g.R.NodeRecords.nodes l.records) (g.R.NodeRecords.count l.records) g.V.Visitor.visited l.visitor (walk (g.R.NodeRecords.nodes l.records) (g.R.NodeRecords.count l.records) steps l.last l.at))
 
 abbrev pub decreases-loop-at : goal.decreases-loop-at
 decreases-loop-at g l = 65536 - l.last

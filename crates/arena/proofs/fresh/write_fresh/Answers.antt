@@ -1,10 +1,8 @@
 -- Header, workers and nodes are one run of words.
 use Rattle.std.proofs.Common.{◌≡◌, sym, ◌∙◌, arith, length}
 use borrow.Rule.Slice.PartMut.{mid_len}
-use Rattle.words.specs.Layout.{node_width}
-use Rattle.words.proofs.Bounds.{counts, wide, narrow}
+use Rattle.words.proofs.Bounds.{counts}
 use Rattle.words.proofs.Runs.{part_sets}
-use Rattle.arena.specs.Init.{fresh_nodes}
 use Rattle.arena.proofs.FreshLaws.{fresh_nodes_length, fresh_runs}
 use Rattle.arena.proofs.fresh.write_fresh.Goals as goal
 
@@ -12,37 +10,26 @@ pub write_nodes-requires : goal.write_nodes-requires
 write_nodes-requires c =
     let args = c.args in
     let it = args.counts in
-    let known = counts it.layout it.workers it.nodes it.good in
+    let known = counts it.workers it.nodes it.good in
     let long : length args.arena.now ≡ length c.write_workers.new.arena = sym (c.write_workers.auto.arena ∙ c.write_record.auto.arena) in
-    let width = c.node_width.ensures in
     let whole = c.total-end.ensures in
     let from = c.worker_from-from.ensures in (
-      rw width (wide known),
-      rw width (narrow it.layout),
       omega (arith, known),
       mid_len c.worker_from-from.result c.total-end.result c.write_workers.new.arena (omega (arith, whole, long, c.requires))
-          ∙ rw (whole, from, width) (omega arith),
+          ∙ rw (whole, from) (omega arith),
     )
 
 pub returns : goal.returns
 returns c =
     let args = c.args in
     let it = args.counts in
-    let known = counts it.layout it.workers it.nodes it.good in
+    let known = counts it.workers it.nodes it.good in
     let long : length args.arena.now ≡ length c.write_workers.new.arena = sym (c.write_workers.auto.arena ∙ c.write_record.auto.arena) in
     let nodes = c.write_nodes in
     let whole = c.total-end.ensures in
     let from = c.worker_from-from.ensures in
-    let width = c.node_width.ensures in
-    let all : nodes.new.nodes ≡ fresh_nodes (node_width it.layout) it.nodes = rw (width) at nodes.ensures in
     part_sets nodes.new.nodes c.write_workers.new.arena c.worker_from-from.result c.total-end.result
     (rw (whole, from) (omega arith)) (omega (arith, whole, long, c.requires))
-    (rw (all, whole, from) (fresh_nodes_length _ it.nodes (narrow it.layout) (omega (arith, known)) ∙ omega arith))
-    ∙ rw (
-      all,
-      from,
-      c.write_workers.ensures,
-      c.write_record.ensures,
-      c.header.ensures,
-    )
-    (fresh_runs args.arena.now it.layout it.workers it.nodes)
+    (rw (nodes.ensures, whole, from) (fresh_nodes_length it.nodes (omega (arith, known)) ∙ omega arith))
+    ∙ rw (nodes.ensures, from, c.write_workers.ensures, c.write_record.ensures, c.header.ensures)
+    (fresh_runs args.arena.now it.workers it.nodes)

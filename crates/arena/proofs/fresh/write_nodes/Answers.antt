@@ -15,6 +15,6 @@ returns c =
       c.head.ensures,
       c.slot.ensures,
       c.clear.ensures,
-      c.requires.3,
+      c.requires.1,
     )
-    (fresh_laid c.args.width c.args.count c.requires.2 c.requires.0 c.requires.1)
+    (fresh_laid c.args.count c.requires.0)

@@ -8,5 +8,5 @@ use Rattle.convert.proofs.verdict.any_above.Given as goal
 
 abbrev pub invariant-loop-number : goal.invariant-loop-number
 invariant-loop-number l =
-    list_any (λ worker. ltb l.stage (worker_at l.arena.words.now worker).stage) (numbers_from l.number (l.number-end - l.number))
-    ≡ any_above l.initial.arena.words.now l.initial.stage
+    list_any (λ worker. ltb l.stage (worker_at l.source.words.now worker).stage) (numbers_from l.number (l.number-end - l.number))
+    ≡ any_above l.initial.source.words.now l.initial.stage

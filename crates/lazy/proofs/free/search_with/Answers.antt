@@ -48,4 +48,4 @@ returns c =
     let nodes = c.nodes-nodes.ensures in
     let all : loop.number ≡ workers_of c.args.arena.words.now = omega (arith, c.worker_count-number-end.ensures) in
     let told = tells _ (rw all at loop.invariant.2) in
-    rw (c.lowest_unreached.ensures, loop.invariant.0, told.0, loop.invariant.1, told.1, nodes.words, nodes.width, nodes.count)
+    rw (c.lowest_unreached.ensures, loop.invariant.0, told.0, loop.invariant.1, told.1, nodes.words, nodes.count)

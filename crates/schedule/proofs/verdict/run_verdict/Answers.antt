@@ -1,7 +1,7 @@
 -- No test holds.
 use Rattle.std.proofs.Common.{◌≡◌, true, rules, sym, ◌∙◌}
 use borrow.Author.Tests.{le-ltb, leb-true}
-use Rattle.words.specs.Layout.{layout2, good_counts}
+use Rattle.words.specs.Layout.{good_counts}
 use Rattle.schedule.specs.Run.{run_refusals}
 use Rattle.schedule.proofs.EntryLaws.{turns_within, below_or_not}
 use Rattle.schedule.proofs.verdict.run_verdict.Goals as goal
@@ -11,9 +11,9 @@ unfolding run_refusals
 returns-clause-answer c =
     let args = c.args in
     let counts = c.in_ok-counts.counts in
-    let same : (counts.layout ≡ layout2) × (counts.workers ≡ args.workers) × (counts.nodes ≡ args.nodes) = search rules in
-    let good : good_counts layout2 args.workers args.nodes ≡ true = rw (same.0, same.1, same.2) at counts.good in
-    let whole = rw (same.0, same.1, same.2) at c.total.ensures in
+    let same : (counts.workers ≡ args.workers) × (counts.nodes ≡ args.nodes) = search rules in
+    let good : good_counts args.workers args.nodes ≡ true = rw (same.0, same.1) at counts.good in
+    let whole = rw (same.0, same.1) at c.total.ensures in
     rw (
       good,
       sym c.is_bad.ensures ∙ c.if-is_bad.false,

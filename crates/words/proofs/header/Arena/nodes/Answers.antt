@@ -18,11 +18,7 @@ unfolding node_part
 invariant_of-result c =
     let words = c.args.self.words.now in
     let header = header_holds words c.args.self.tested in
-    record {
-      spans =
-          rw (c.node_width.ensures, c.word.ensures, c.word-2.ensures, c.word-from.ensures, c.word-total.ensures)
-          (unfold node_part in (all_spanned words header));
-    }
+    record { spans = rw (c.word.ensures, c.word-from.ensures, c.word-total.ensures) (unfold node_part in (all_spanned words header)) }
 
 pub returns-clause-words : goal.returns-clause-words
 unfolding node_part
