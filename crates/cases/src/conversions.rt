@@ -1,9 +1,10 @@
 // Old boards to new and back.
 use crate::calls::Call;
+use crate::counts::stored;
 use crate::fresh::{first, fresh, rewritten};
-use crate::print::{Out, show, show_keys, show_part};
+use crate::print::{Out, show, show_part};
 use std::fmt;
-use words::layout::{LAYOUT_1, LAYOUT_2, STORED_AT};
+use words::layout::STORED_AT;
 
 // For Head, Tail, and nodes 2 to 4.
 const LENGTHS: [u16; 5] = [11, 12, 3, 4, 2];
@@ -19,7 +20,7 @@ pub fn renewed(out: &mut Out) -> fmt::Result {
     show_part(out, "  Head, Tail", &target, 16..26)?;
     show_part(out, "  nodes 2 to 4", &target, 26..41)?;
     show_part(out, "  behind", &target, 41..43)?;
-    show(out, "  then", arena::stored(&target))?;
+    show(out, "  then", stored(&target))?;
     let cells = free_cells::longest_free_run(&target, 12);
     show(out, "  free up to 12", cells)?;
     for (text, call) in [
@@ -30,7 +31,7 @@ pub fn renewed(out: &mut Out) -> fmt::Result {
     ] {
         show(out, text, call.run(&mut target))?;
     }
-    show(out, "  then", arena::stored(&target))
+    show(out, "  then", stored(&target))
 }
 
 // To layout 2 with every length 1, and back; with a length of 2, not back.
@@ -46,9 +47,6 @@ pub fn there_and_back(out: &mut Out) -> fmt::Result {
     show_part(out, "  worker", &back, 8..16)?;
     show_part(out, "  nodes", &back, 16..36)?;
     show_part(out, "  behind", &back, 36..38)?;
-    let mut keys = [0; 3];
-    let listed = arena::snapshot(&back, &mut keys);
-    show_keys(out, "  then", listed, &keys)?;
     for (text, at, word) in [
         ("back, node 4 has length 2", 40, 2),
         ("back, node 4 has length 0", 40, 0),
@@ -80,9 +78,10 @@ pub fn refusals(out: &mut Out) -> fmt::Result {
         &LENGTHS,
         41,
     )?;
-    let new: [u16; 41] = fresh(LAYOUT_2, 1, 5);
+    let new: [u16; 41] = fresh(1, 5);
     refused(out, "to layout 2: from layout 2", &new, &LENGTHS, 41)?;
     for (text, at, word, room) in [
+        ("to layout 2: word 6 is 1", STORED_AT, 1, 41),
         ("to layout 2: word 7 is 1", 7, 1, 41),
         ("to layout 2: stage 26", 8, 26, 41),
         ("to layout 2: stage 25, a broken chain", 8, 25, 41),
@@ -126,11 +125,19 @@ fn refused(out: &mut Out, text: &str, source: &[u16], lent: &[u16], room: usize)
     show_part(out, "  header", &target, 0..8)
 }
 
-// Of layout 1, at rest: 5 and 7 are stored in nodes 2 and 4, and 9 was removed from node 3, which leads to Tail.
-fn old_arena() -> [u16; 36] {
-    let mut arena = fresh(LAYOUT_1, 1, 5);
-    for call in [Call::add(5), Call::add(9), Call::add(7), Call::remove(9)] {
-        let _ = call.run(&mut arena);
+// Of layout 1, at rest: 5 and 7 are stored in nodes 2 and 4, and 9 was removed from node 3, which leads to Tail. No arena is laid in that layout,
+// so this one is converted.
+pub fn old_arena() -> [u16; 36] {
+    let mut new: [u16; 41] = fresh(1, 5);
+    for call in [
+        Call::add(5).of(1),
+        Call::add(9).of(1),
+        Call::add(7).of(1),
+        Call::remove(9),
+    ] {
+        let _ = call.run(&mut new);
     }
-    arena
+    let mut old = [0; 36];
+    let _ = convert::to_layout_1(&new, &mut old);
+    old
 }

@@ -1,14 +1,16 @@
-// The count of stored labels in the header of layout 2: kept by calls, refused at its ends, and told.
+// The count of stored labels in the header: kept by calls, refused at its ends, and told.
 use crate::calls::{Call, turns};
 use crate::fresh::{first, fresh, rewritten};
-use crate::print::{Out, show, show_part};
+use crate::print::{Given, Out, show, show_part};
+use crate::reuse::keys;
 use std::fmt;
-use words::layout::{LAYOUT_1, LAYOUT_2, STORED_AT};
+use words::layout::STORED_AT;
+use worker::Refusal;
 
-// Calls that find room for two labels, and the count behind each.
+// Calls that find room for two labels, and use a node again, and the count behind each.
 pub fn kept(out: &mut Out) -> fmt::Result {
     let mut arena = four_nodes();
-    show(out, "count: fresh", arena::stored(&arena))?;
+    show(out, "count: fresh", stored(&arena))?;
     for (text, call) in [
         ("count: add 5", Call::add(5).of(3)),
         ("count: add 9", Call::add(9).of(1)),
@@ -17,12 +19,13 @@ pub fn kept(out: &mut Out) -> fmt::Result {
         ("count: contains 5", Call::contains(5)),
         ("count: remove 5", Call::remove(5)),
         ("count: remove 5 again", Call::remove(5)),
+        ("count: add 11", Call::add(11).of(1)),
         ("count: remove 9", Call::remove(9)),
     ] {
         show(out, text, call.run(&mut arena))?;
-        show(out, "  then", arena::stored(&arena))?;
+        show(out, "  then", stored(&arena))?;
     }
-    Ok(())
+    keys(out, "count: snapshot", &arena)
 }
 
 // The turns at 14 to 16 and 18, on counts at both ends and past them.
@@ -74,24 +77,27 @@ pub fn told(out: &mut Out) -> fmt::Result {
         ("count: stage 26", 8, 26),
     ] {
         let arena = rewritten(four_nodes(), &[(at, word)]);
-        show(out, text, arena::stored(&arena))?;
+        show(out, text, stored(&arena))?;
     }
     let mut short = four_nodes();
-    show(out, "count: 35 words", arena::stored(first(&mut short, 35)))?;
-    without_count(out)
+    show(out, "count: 35 words", stored(first(&mut short, 35)))
 }
 
-// Layout 1.
-fn without_count(out: &mut Out) -> fmt::Result {
-    let mut arena: [u16; 32] = fresh(LAYOUT_1, 1, 4);
-    show(out, "count, layout 1: add 5", Call::add(5).run(&mut arena))?;
-    show(out, "count, layout 1", arena::stored(&arena))?;
-    show_part(out, "  header", &arena, 0..8)?;
-    let odd = rewritten(arena, &[(STORED_AT, 1)]);
-    show(out, "count, layout 1: it is 1", arena::stored(&odd))
-}
-
-// One worker, in layout 2.
+// One worker.
 fn four_nodes() -> [u16; 36] {
-    fresh(LAYOUT_2, 1, 4)
+    fresh(1, 4)
+}
+
+// How many labels are stored.
+#[derive(Clone, Copy)]
+pub struct Count(u16);
+
+impl Given for Count {
+    fn print<W: fmt::Write>(&self, f: &mut fmt::Formatter<W>) -> fmt::Result {
+        write!(f, "stored {}", self.0)
+    }
+}
+
+pub fn stored(arena: &[u16]) -> Result<Count, Refusal> {
+    Ok(Count(arena::stored(arena)?))
 }

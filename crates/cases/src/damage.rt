@@ -3,15 +3,16 @@ use crate::fresh::{fresh, rewritten};
 use crate::print::{Out, Reply, show_part};
 use std::fmt;
 use std::fmt::Write;
-use words::layout::LAYOUT_1;
+use words::layout::STORED_AT;
 use worker::Worker;
 
-// One worker and four nodes: Head, then node 2 with key 5; node 3 is free. The worker stands at a stage, with pred 0, curr 2, spare 2.
-fn standing(stage: u16) -> [u16; 32] {
-    let nodes = [(17, 2), (24, 5), (25, 1)];
-    let record = [(11, 0), (12, 2), (13, 2), (14, 1)];
+// One worker and four nodes: Head, then node 2 with key 5, of length 4, which is counted; node 3 is free. The worker stands at a stage, with
+// pred 0, curr 2, spare 2, and a length of 3.
+fn standing(stage: u16) -> [u16; 36] {
+    let nodes = [(STORED_AT, 1), (17, 2), (26, 5), (27, 1), (30, 4)];
+    let record = [(11, 0), (12, 2), (13, 2), (14, 1), (15, 3)];
     let call = [(8, stage), (9, operation_at(stage)), (10, 5)];
-    let arena = rewritten(fresh(LAYOUT_1, 1, 4), &nodes);
+    let arena = rewritten(fresh(1, 4), &nodes);
     rewritten(rewritten(arena, &record), &call)
 }
 
@@ -41,18 +42,18 @@ pub fn stages(out: &mut Out) -> fmt::Result {
 }
 
 fn stage_on_three(out: &mut Out, stage: u16) -> fmt::Result {
-    let key_below = [(9, other_operation_at(stage)), (24, 3)];
+    let key_below = [(9, other_operation_at(stage)), (26, 3)];
     // all tests the other way: key above, both nodes marked and held, pred leads elsewhere, no node free, another answer
     let key_above = [
         (14, 3),
         (17, 3),
         (18, 7),
         (19, 2),
-        (24, 6),
-        (26, 1),
-        (27, 3),
-        (28, 4),
-        (29, 1),
+        (26, 6),
+        (28, 1),
+        (29, 3),
+        (31, 4),
+        (32, 1),
     ];
     turn(out, stage, "key equal", standing(stage))?;
     turn(
@@ -69,15 +70,13 @@ fn stage_on_three(out: &mut Out, stage: u16) -> fmt::Result {
     )
 }
 
-// The report, then the worker's and the nodes' words.
-fn turn(out: &mut Out, stage: u16, text: &str, mut arena: [u16; 32]) -> fmt::Result {
-    writeln!(
-        out,
-        "stage {stage}, {text}: {}",
-        Reply(lazy::turn(&mut arena, 0))
-    )?;
+// The report and the count, then the worker's and the nodes' words.
+fn turn(out: &mut Out, stage: u16, text: &str, mut arena: [u16; 36]) -> fmt::Result {
+    let report = Reply(lazy::turn(&mut arena, 0));
+    let stored = words::word(&arena, STORED_AT);
+    writeln!(out, "stage {stage}, {text}: {report}, count {stored}")?;
     show_part(out, "  worker", &arena, 8..16)?;
-    show_part(out, "  nodes", &arena, 16..32)
+    show_part(out, "  nodes", &arena, 16..36)
 }
 
 // For each stage the refusal that each damage gets.
@@ -98,7 +97,9 @@ fn refusals_at(out: &mut Out, stage: u16) -> fmt::Result {
     write!(out, "; pred, curr, spare 4:")?;
     show_refusals(out, stage, &[(11, 4), (12, 4), (13, 4)])?;
     write!(out, "; next of pred, of curr 4:")?;
-    show_refusals(out, stage, &[(17, 4), (25, 4)])?;
+    show_refusals(out, stage, &[(17, 4), (27, 4)])?;
+    write!(out, "; counts 0, 2:")?;
+    show_refusals(out, stage, &[(STORED_AT, 0), (STORED_AT, 2)])?;
     writeln!(out, "")
 }
 

@@ -3,7 +3,6 @@ use crate::fresh::{first, fresh, rewritten};
 use crate::print::{Out, show};
 use free_cells::longest_free_run;
 use std::fmt;
-use words::layout::{LAYOUT_1, LAYOUT_2};
 
 pub fn one_label(out: &mut Out) -> fmt::Result {
     run(out, "free run: no label, up to 9", &[], 9)?;
@@ -44,7 +43,7 @@ fn run(out: &mut Out, text: &str, labels: &[(u16, u16)], last: u16) -> fmt::Resu
     show(out, text, longest_free_run(&labelled(labels), last))
 }
 
-// What stands in the way: too few words, an odd header, a last cell that is none, a broken chain, nodes without lengths; the first decides.
+// What stands in the way: too few words, an odd header, a last cell that is none, a broken chain; the first decides.
 pub fn refusals(out: &mut Out) -> fmt::Result {
     let mut arena = labelled(&[(3, 2), (8, 1)]);
     run_on(out, "free run, 45 words, up to 0", first(&mut arena, 45), 0)?;
@@ -62,31 +61,16 @@ pub fn refusals(out: &mut Out) -> fmt::Result {
     ] {
         run_on(out, text, &rewritten(arena, &[(at, word)]), last)?;
     }
-    without_lengths(out)
-}
-
-// Layout 1.
-fn without_lengths(out: &mut Out) -> fmt::Result {
-    let arena: [u16; 28] = fresh(LAYOUT_1, 1, 3);
-    let broken = rewritten(arena, &[(17, 3)]);
-    run_on(out, "free run, layout 1, up to 9", &arena, 9)?;
-    run_on(out, "free run, layout 1, up to 0", &arena, 0)?;
-    run_on(out, "free run, layout 1, Head's link 3", &broken, 9)?;
-    run_on(
-        out,
-        "free run, layout 1, Head's link 3, up to 0",
-        &broken,
-        0,
-    )
+    Ok(())
 }
 
 fn run_on(out: &mut Out, text: &str, arena: &[u16], last: u16) -> fmt::Result {
     show(out, text, longest_free_run(arena, last))
 }
 
-// Six nodes in layout 2: the labels, up to four, one behind the other between Head and Tail.
+// Six nodes: the labels, up to four, one behind the other between Head and Tail.
 fn labelled(labels: &[(u16, u16)]) -> [u16; 46] {
-    let mut arena = fresh(LAYOUT_2, 1, 6);
+    let mut arena = fresh(1, 6);
     let mut link = 17;
     for (node, (key, length)) in (2..6u16).zip(labels.iter()) {
         let at = 16 + 5 * (node as usize);

@@ -1,9 +1,9 @@
 // The arenas that the cases begin with.
 
 // A fresh arena; the words that it doesn't take stay 7, and so do all where it is refused.
-pub fn fresh<const WORDS: usize>(layout: u16, workers: u16, nodes: u16) -> [u16; WORDS] {
+pub fn fresh<const WORDS: usize>(workers: u16, nodes: u16) -> [u16; WORDS] {
     let mut arena = [7; WORDS];
-    let _ = arena::init(&mut arena, layout, workers, nodes);
+    let _ = arena::init(&mut arena, workers, nodes);
     arena
 }
 

@@ -1,5 +1,5 @@
-// Runs what the starred cases leave out: on layout 1 the limits of the counts, damaged headers, records and chains, a turn at each stage,
-// and nodes used again; on layout 2 lengths, the longest run of free cells, and the count of stored labels; and arenas converted. What it prints is held to the
+// Runs what the starred cases leave out: the limits of the counts, damaged headers, records and chains, a turn at each stage, nodes used again,
+// lengths, the longest run of free cells, the count of stored labels, arenas converted, and old arenas refused. What it prints is held to the
 // stored output, which was worked out from documents 01 and 02.
 #![tactic(auto)]
 
@@ -11,6 +11,7 @@ mod damage;
 mod free_runs;
 mod fresh;
 mod labels;
+mod old_layout;
 mod print;
 mod reuse;
 mod snapshots;
@@ -38,11 +39,8 @@ fn all(out: &mut Out) -> fmt::Result {
     damage::refusals(out)?;
     circles::hunts(out)?;
     circles::searches(out)?;
-    reuse::filled(out)?;
     reuse::stood_on(out)?;
     reuse::led_to(out)?;
-    labels::inits(out)?;
-    labels::headers(out)?;
     labels::lengths(out)?;
     labels::carried(out)?;
     labels::taken_again(out)?;
@@ -56,5 +54,8 @@ fn all(out: &mut Out) -> fmt::Result {
     counts::told(out)?;
     conversions::renewed(out)?;
     conversions::there_and_back(out)?;
-    conversions::refusals(out)
+    conversions::refusals(out)?;
+    old_layout::refused(out)?;
+    old_layout::counts(out)?;
+    old_layout::headers(out)
 }

@@ -92,16 +92,6 @@ impl Given for u16 {
     }
 }
 
-// How many labels are stored.
-impl Given for Option<u16> {
-    fn print<W: fmt::Write>(&self, f: &mut fmt::Formatter<W>) -> fmt::Result {
-        match self {
-            Some(stored) => write!(f, "stored {stored}"),
-            None => f.write_str("no count"),
-        }
-    }
-}
-
 impl Given for Found {
     fn print<W: fmt::Write>(&self, f: &mut fmt::Formatter<W>) -> fmt::Result {
         match self.free {

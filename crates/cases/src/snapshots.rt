@@ -3,17 +3,16 @@ use crate::calls::{Call, turns};
 use crate::fresh::{first, fresh, rewritten};
 use crate::print::{Out, show, show_keys};
 use crate::reuse::keys;
+use crate::starts::one_worker;
 use std::fmt;
-use words::layout::LAYOUT_1;
 
 pub fn chains(out: &mut Out) -> fmt::Result {
-    let empty: [u16; 28] = fresh(LAYOUT_1, 1, 3);
-    snapshot(out, "snapshot, empty", &empty, &mut [9; 2], 2)?;
+    snapshot(out, "snapshot, empty", &one_worker(), &mut [9; 2], 2)?;
     for (text, at, word, room) in [
-        ("snapshot, key 5", 26, 0, 2),
-        ("snapshot, key 5, no room", 26, 0, 0),
+        ("snapshot, key 5", 28, 0, 2),
+        ("snapshot, key 5, no room", 28, 0, 0),
         ("snapshot, key 5, Head's key 4", 16, 4, 2),
-        ("snapshot, key 5, Tail's key 0", 20, 0, 2),
+        ("snapshot, key 5, Tail's key 0", 21, 0, 2),
     ] {
         snapshot(out, text, &one(0, at, word), &mut [9; 2], room)?;
     }
@@ -26,10 +25,10 @@ pub fn breaks(out: &mut Out) -> fmt::Result {
         ("snapshot, Head's link 65535", 17, 65535, 2),
         ("snapshot, Head's link 0", 17, 0, 2),
         ("snapshot, Head's key 5", 16, 5, 2),
-        ("snapshot, key 0", 24, 0, 2),
-        ("snapshot, node 2 leads to itself", 25, 2, 2),
-        ("snapshot, node 2 leads to Head", 25, 0, 2),
-        ("snapshot, node 2 leads to itself, no room", 25, 2, 0),
+        ("snapshot, key 0", 26, 0, 2),
+        ("snapshot, node 2 leads to itself", 27, 2, 2),
+        ("snapshot, node 2 leads to Head", 27, 0, 2),
+        ("snapshot, node 2 leads to itself, no room", 27, 2, 0),
     ] {
         snapshot(out, text, &one(0, at, word), &mut [9; 2], room)?;
     }
@@ -48,10 +47,10 @@ pub fn longer(out: &mut Out) -> fmt::Result {
 // A marked node is not listed and needs no room, and is tested like the others.
 pub fn marks(out: &mut Out) -> fmt::Result {
     for (text, at, word) in [
-        ("snapshot, key 5 marked", 26, 1),
-        ("snapshot, key 5, mark 65535", 26, 65535),
-        ("snapshot, key 0 marked", 24, 0),
-        ("snapshot, key 5 marked, node 2 leads to 3", 25, 3),
+        ("snapshot, key 5 marked", 28, 1),
+        ("snapshot, key 5, mark 65535", 28, 65535),
+        ("snapshot, key 0 marked", 26, 0),
+        ("snapshot, key 5 marked, node 2 leads to 3", 27, 3),
     ] {
         snapshot(out, text, &one(1, at, word), &mut [9; 2], 2)?;
     }
@@ -72,26 +71,26 @@ fn snapshots_of_three(out: &mut Out, mark: u16, rows: &[(&str, u16, usize)]) -> 
 }
 
 // Node 2 with key 5 between Head and Tail, with a mark, and then one word written anew.
-fn one(mark: u16, at: usize, word: u16) -> [u16; 28] {
+fn one(mark: u16, at: usize, word: u16) -> [u16; 31] {
     rewritten(
-        fresh(LAYOUT_1, 1, 3),
-        &[(17, 2), (24, 5), (25, 1), (26, mark), (at, word)],
+        one_worker(),
+        &[(17, 2), (26, 5), (27, 1), (28, mark), (at, word)],
     )
 }
 
 // Five nodes, chained 0, 4, 2, 3, 1, with the mark of key 20 and the last key of choice.
-fn three(mark: u16, last: u16) -> [u16; 36] {
+fn three(mark: u16, last: u16) -> [u16; 41] {
     let nodes = [
         (17, 4),
-        (32, 10),
-        (33, 2),
-        (24, 20),
-        (25, 3),
-        (26, mark),
-        (28, last),
-        (29, 1),
+        (36, 10),
+        (37, 2),
+        (26, 20),
+        (27, 3),
+        (28, mark),
+        (31, last),
+        (32, 1),
     ];
-    rewritten(fresh(LAYOUT_1, 1, 5), &nodes)
+    rewritten(fresh(1, 5), &nodes)
 }
 
 // Into the first of the lent words.
@@ -108,9 +107,10 @@ fn snapshot(
 
 // Key 5 between its marking, in the tenth turn of its remove, and its unlinking, in the twelfth: a look-up says no, and it is not listed.
 pub fn half_removed(out: &mut Out) -> fmt::Result {
-    let mut arena: [u16; 36] = fresh(LAYOUT_1, 2, 3);
+    let mut arena: [u16; 39] = fresh(2, 3);
+    let add = Call::add(5).of(1);
     let remove = Call::remove(5);
-    show(out, "half removed: add 5", Call::add(5).run(&mut arena))?;
+    show(out, "half removed: add 5", add.run(&mut arena))?;
     show(
         out,
         "half removed: remove 5 is about to mark",

@@ -1,9 +1,9 @@
 -- One table of histories: a row has an arena and entries, and says what calls and waits they come to, the totals, and the set at the end.
-use Rattle.std.specs.Prelude.{ℕ, List, [], ◌∷◌, ◌++◌, map, length, replicate, Option, Some, None}
+use Rattle.std.specs.Prelude.{ℕ, List, [], ◌∷◌, ◌++◌, map, length, replicate}
 use Rattle.worker.specs.Worker.{add, remove, contains}
 use Rattle.worker.specs.Report.{answer_number}
 use Rattle.worker.specs.declared.report.Answer.TheVariants.{Yes, No, Full}
-use Rattle.words.specs.Layout.{stored_in}
+use Rattle.words.specs.Layout.{stored_of}
 use Rattle.words.specs.declared.entry.Entry.{Entry}
 use Rattle.arena.specs.declared.chain.Label.{Label}
 use Rattle.arena.specs.Sets.{set_of}
@@ -45,7 +45,7 @@ abbrev pub label : ℕ → ℕ → Label
 label key length = record { key = key; length = length }
 
 -- what is asked of a list of entries: its calls, its waits, its totals, the starts of its calls in order; and at the end the set, on the arena and by
--- the sequential set, which begins with the arena's, and the count of stored labels, if there is one
+-- the sequential set, which begins with the arena's, and the count of stored labels
 pub record Told : Type 0 where
   pub calls : List Call
   pub waits : List Wait
@@ -53,7 +53,7 @@ pub record Told : Type 0 where
   pub order : List ℕ
   pub labels : List Label
   pub sequential : List Label
-  pub stored : Option ℕ
+  pub stored : ℕ
 
 pub data History : Type 0 where
   row : List ℕ → List Entry → Told → History
@@ -67,13 +67,13 @@ found (row initial entries told) =
       order = map (λ (call : Call). call.start) (in_order initial entries);
       labels = set_of (arena_at initial entries (length entries));
       sequential = labels_after (set_of initial) (in_order initial entries);
-      stored = stored_in (arena_at initial entries (length entries));
+      stored = stored_of (arena_at initial entries (length entries));
     }
 
 abbrev pub stated : History → Told
 stated (row initial entries told) = told
 
--- fresh arenas with 3 nodes, of layout 2 with 2 workers, and of layout 1 with 1, written out (`Table.fresh_arenas`)
+-- fresh arenas with 3 nodes, for 2 workers and for 1, written out (`Table.fresh_arenas`)
 abbrev pub for_two : List ℕ
 for_two =
     -- header
@@ -89,14 +89,24 @@ for_two =
 
 abbrev pub for_one : List ℕ
 for_one =
-    1 ∷ 1 ∷ 3 ∷ 8 ∷ 16 ∷ 28 ∷ 0 ∷ 0
+    2 ∷ 1 ∷ 3 ∷ 8 ∷ 16 ∷ 31 ∷ 0 ∷ 0
     ∷ 0 ∷ 0 ∷ 0 ∷ 65535 ∷ 65535 ∷ 65535 ∷ 0 ∷ 0
-    ∷ 0 ∷ 1 ∷ 0 ∷ 0
-    ∷ 65535 ∷ 1 ∷ 0 ∷ 0
-    ∷ 0 ∷ 0 ∷ 0 ∷ 0
+    ∷ 0 ∷ 1 ∷ 0 ∷ 0 ∷ 0
+    ∷ 65535 ∷ 1 ∷ 0 ∷ 0 ∷ 0
+    ∷ 0 ∷ 0 ∷ 0 ∷ 0 ∷ 0
     ∷ []
 
--- an arena of layout 1 with 5 stored, as it comes to rest after an add; and converted to layout 2, with length 4 (`Table.old_rests`, `new_converted`)
+-- an arena with 5 stored, as it comes to rest after an add; converted to layout 1; and from there to layout 2, with length 4 (`Table.comes_to_rest`,
+-- `old_converted`, `new_converted`)
+abbrev pub at_rest : List ℕ
+at_rest =
+    2 ∷ 1 ∷ 3 ∷ 8 ∷ 16 ∷ 31 ∷ 1 ∷ 0
+    ∷ 0 ∷ 0 ∷ 0 ∷ 65535 ∷ 65535 ∷ 65535 ∷ 0 ∷ 0
+    ∷ 0 ∷ 2 ∷ 0 ∷ 0 ∷ 0
+    ∷ 65535 ∷ 1 ∷ 0 ∷ 0 ∷ 0
+    ∷ 5 ∷ 1 ∷ 0 ∷ 0 ∷ 1
+    ∷ []
+
 abbrev pub old_arena : List ℕ
 old_arena =
     1 ∷ 1 ∷ 3 ∷ 8 ∷ 16 ∷ 28 ∷ 0 ∷ 0
@@ -146,9 +156,9 @@ relabelled =
     ++ turn 0 15
     ++ turn 1 21
 
--- on layout 1, one node besides Head and Tail: the second add is told full. A start with a length is refused
+-- one node besides Head and Tail: the second add is told full. An add without a length is refused
 abbrev pub crowded : List Entry
-crowded = start add 0 5 0 ++ turn 0 14 ++ start add 0 6 1 ++ start add 0 6 0 ++ turn 0 16
+crowded = start add 0 5 3 ++ turn 0 14 ++ start add 0 6 0 ++ start add 0 6 1 ++ turn 0 16
 
 -- no such worker, busy, bad operation, bad key and bad length among the starts; worker 1 waits for Head, which worker 0 owns; no such worker
 -- among the turns; calls without a finish, and one without a point
@@ -187,7 +197,7 @@ histories =
       order = 1 ∷ 21 ∷ 16 ∷ 37 ∷ 53 ∷ [];
       labels = label 7 1 ∷ [];
       sequential = label 7 1 ∷ [];
-      stored = Some 1;
+      stored = 1;
     })
     ∷ row for_two overtaken
     (record {
@@ -197,7 +207,7 @@ histories =
       order = 1 ∷ 5 ∷ [];
       labels = label 7 4 ∷ [];
       sequential = label 7 4 ∷ [];
-      stored = Some 1;
+      stored = 1;
     })
     ∷ row for_two relabelled
     (record {
@@ -211,17 +221,17 @@ histories =
       order = 1 ∷ 19 ∷ 16 ∷ [];
       labels = label 5 2 ∷ [];
       sequential = label 5 2 ∷ [];
-      stored = Some 1;
+      stored = 1;
     })
     ∷ row for_one crowded
     (record {
-      calls = call 0 add 5 0 1 12 15 (answer_number Yes) ∷ call 0 add 6 0 17 30 33 (answer_number Full) ∷ [];
+      calls = call 0 add 5 3 1 12 15 (answer_number Yes) ∷ call 0 add 6 1 17 30 33 (answer_number Full) ∷ [];
       waits = [];
       totals = total 33 1 0 2;
       order = 1 ∷ 17 ∷ [];
-      labels = label 5 0 ∷ [];
-      sequential = label 5 0 ∷ [];
-      stored = None;
+      labels = label 5 3 ∷ [];
+      sequential = label 5 3 ∷ [];
+      stored = 1;
     })
     ∷ row for_two mixed
     (record {
@@ -231,7 +241,7 @@ histories =
       order = 1 ∷ [];
       labels = label 5 9 ∷ [];
       sequential = label 5 9 ∷ [];
-      stored = Some 1;
+      stored = 1;
     })
     ∷ row new_arena onward
     (record {
@@ -245,6 +255,6 @@ histories =
       order = 1 ∷ 8 ∷ 24 ∷ [];
       labels = label 7 2 ∷ [];
       sequential = label 7 2 ∷ [];
-      stored = Some 1;
+      stored = 1;
     })
     ∷ []
