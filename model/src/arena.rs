@@ -13,13 +13,13 @@ pub const BROKEN_CHAIN: u16 = 7; // broken chain
 pub const NO_ROOM: u16 = 8; // no room
 pub const BAD_SCHEDULE: u16 = 9; // bad schedule
 pub const BAD_COUNTS: u16 = 10; // bad counts
-pub const LENGTHS_MISSING: u16 = 13; // lengths missing
+pub const OLD_LAYOUT: u16 = 12; // old layout
 pub const BROKEN_COUNT: u16 = 14; // broken count
 
+/// Withdrawn: the header test and the converters alone know it.
 pub const LAYOUT_1: u16 = 1;
-/// Nodes have a fifth word, the length.
+/// Nodes have a fifth word, the length, and the header has a count.
 pub const LAYOUT_2: u16 = 2;
-pub const LAYOUTS: [u16; 2] = [LAYOUT_1, LAYOUT_2];
 
 pub const HEAD: u16 = 0;
 pub const TAIL: u16 = 1;
@@ -32,16 +32,15 @@ pub const REMOVE: u16 = 2;
 pub const CONTAINS: u16 = 3;
 
 pub const HEADER_WORDS: usize = 8;
-/// The place of the count in the header: in layout 2 the size of the set, in layout 1 always 0.
+/// The place of the count in the header, the size of the set; in layout 1 always 0.
 pub const COUNT: usize = 6;
 pub const WORKER_WORDS: usize = 8;
-/// Words of the longest node record.
-pub const MAX_NODE_WORDS: usize = 5;
+pub const NODE_WORDS: usize = 5;
 pub const MAX_WORKERS: u16 = 8;
 pub const MAX_NODES: u16 = 1_024;
 /// Words of the largest arena.
 pub const MAX_WORDS: usize =
-    HEADER_WORDS + WORKER_WORDS * MAX_WORKERS as usize + MAX_NODE_WORDS * MAX_NODES as usize;
+    HEADER_WORDS + WORKER_WORDS * MAX_WORKERS as usize + NODE_WORDS * MAX_NODES as usize;
 /// Key and length of a label together.
 pub const MAX_END: u32 = 65_535;
 
@@ -55,7 +54,7 @@ pub const SPARE: usize = 5;
 pub const ANSWER: usize = 6;
 pub const CALL_LENGTH: usize = 7;
 
-// Places of the words in a node record; the length stands in layout 2 alone.
+// Places of the words in a node record; layout 1 has no length.
 pub const KEY: usize = 0;
 pub const NEXT: usize = 1;
 pub const MARK: usize = 2;
@@ -64,34 +63,40 @@ pub const LENGTH: usize = 4;
 
 pub const IDLE_WORKER: [u16; WORKER_WORDS] = [0, 0, 0, NONE, NONE, NONE, 0, 0];
 
-/// Layout and counts of an arena; they fix where everything stands.
+/// Counts of an arena; with the layout they fix where everything stands.
 #[derive(Clone, Copy, Debug, Default, PartialEq, Eq)]
-pub struct Shape {
-    pub layout: u16,
+pub struct ShapeIn<const LAYOUT: u16> {
     pub workers: u16,
     pub nodes: u16,
 }
 
-impl Shape {
-    /// None for a layout that is not there, or counts outside document 01's ranges.
-    pub fn new(layout: u16, workers: u16, nodes: u16) -> Option<Shape> {
-        let good = LAYOUTS.contains(&layout)
-            && (1..=MAX_WORKERS).contains(&workers)
-            && (3..=MAX_NODES).contains(&nodes);
-        good.then_some(Shape {
-            layout,
-            workers,
-            nodes,
-        })
+pub type Shape = ShapeIn<LAYOUT_2>;
+pub type OldShape = ShapeIn<LAYOUT_1>;
+
+impl<const LAYOUT: u16> ShapeIn<LAYOUT> {
+    pub const NODE_WORDS: usize = if LAYOUT == LAYOUT_1 {
+        NODE_WORDS - 1
+    } else {
+        NODE_WORDS
+    };
+
+    /// None for counts outside document 01's ranges.
+    pub fn new(workers: u16, nodes: u16) -> Option<Self> {
+        let good = (1..=MAX_WORKERS).contains(&workers) && (3..=MAX_NODES).contains(&nodes);
+        good.then_some(ShapeIn { workers, nodes })
     }
 
-    /// Words of a node record.
-    pub fn node_words(self) -> usize {
-        if self.layout == LAYOUT_1 {
-            MAX_NODE_WORDS - 1
-        } else {
-            MAX_NODE_WORDS
-        }
+    /// None if the first eight words are not a header of this layout.
+    pub fn read(arena: &[u16]) -> Option<Self> {
+        let header = arena.get(..HEADER_WORDS)?;
+        let shape = ShapeIn::new(header[1], header[2])?;
+        shape.is_header(header).then_some(shape)
+    }
+
+    /// The same counts in another layout.
+    pub fn in_layout<const OTHER: u16>(self) -> ShapeIn<OTHER> {
+        let ShapeIn { workers, nodes } = self;
+        ShapeIn { workers, nodes }
     }
 
     pub fn worker_at(self, worker: u16) -> usize {
@@ -99,7 +104,7 @@ impl Shape {
     }
 
     pub fn node_at(self, node: u16) -> usize {
-        self.worker_at(self.workers) + self.node_words() * node as usize
+        self.worker_at(self.workers) + Self::NODE_WORDS * node as usize
     }
 
     pub fn total(self) -> usize {
@@ -109,7 +114,7 @@ impl Shape {
     /// The greatest count that a header may hold: every node but Head and Tail may be stored. Layout 1
     /// counts nothing.
     pub fn max_count(self) -> u16 {
-        if self.layout == LAYOUT_1 {
+        if LAYOUT == LAYOUT_1 {
             0
         } else {
             self.nodes - 2
@@ -122,7 +127,7 @@ impl Shape {
         let nodes_at = self.node_at(0) as u16;
         let total = self.total() as u16;
         [
-            self.layout,
+            LAYOUT,
             self.workers,
             self.nodes,
             workers_at,
@@ -133,28 +138,40 @@ impl Shape {
         ]
     }
 
-    /// Whether these eight words are the header with some count that it may hold.
+    /// Whether these are the header with some count that it may hold.
     pub fn is_header(self, words: &[u16]) -> bool {
         let count = words[COUNT];
         count <= self.max_count() && *words == self.header(count)
     }
 }
 
-/// The header test: refusals 1 and 2. For 1, word 5 is believed before the rest is looked at. The
-/// count is not compared with the chain.
+/// The header test: refusals 1, 2, 12. The count is not compared with the chain.
 pub fn check_header(arena: &[u16]) -> Result<Shape, u16> {
+    check_layout(arena).map_err(|refusal| refusal_of(arena, refusal))
+}
+
+/// What a header is refused with that is not one of layout 2. Set apart, so that the test of a good one
+/// stays short.
+#[cold]
+fn refusal_of(arena: &[u16], refusal: u16) -> u16 {
+    match OldShape::read(arena) {
+        Some(_) if refusal == ODD_HEADER => OLD_LAYOUT,
+        _ => refusal,
+    }
+}
+
+/// The header test of one layout, in which the other one is odd: refusals 1 and 2. For 1, word 5 is
+/// believed before the rest is looked at.
+pub fn check_layout<const LAYOUT: u16>(arena: &[u16]) -> Result<ShapeIn<LAYOUT>, u16> {
     if arena.len() < HEADER_WORDS || arena.len() < arena[5] as usize {
         return Err(SHORT_ARENA);
     }
-    let shape = Shape::new(arena[0], arena[1], arena[2]);
-    shape
-        .filter(|shape| shape.is_header(&arena[..HEADER_WORDS]))
-        .ok_or(ODD_HEADER)
+    ShapeIn::read(arena).ok_or(ODD_HEADER)
 }
 
 /// Writes a fresh arena (document 01: lay). Refusals 10, 1.
-pub fn init(arena: &mut [u16], layout: u16, workers: u16, nodes: u16) -> Result<(), u16> {
-    let shape = Shape::new(layout, workers, nodes).ok_or(BAD_COUNTS)?;
+pub fn init(arena: &mut [u16], workers: u16, nodes: u16) -> Result<(), u16> {
+    let shape = Shape::new(workers, nodes).ok_or(BAD_COUNTS)?;
     if arena.len() < shape.total() {
         return Err(SHORT_ARENA);
     }
@@ -176,9 +193,9 @@ pub fn is_call_key(key: u16) -> bool {
     key != HEAD_KEY && key != TAIL_KEY
 }
 
-/// Lengths that a call may have: in layout 2 an add has one, and every other start has 0.
-pub fn is_call_length(layout: u16, operation: u16, key: u16, length: u16) -> bool {
-    if layout == LAYOUT_2 && operation == ADD {
+/// Lengths that a call may have: an add has one, and every other start has 0.
+pub fn is_call_length(operation: u16, key: u16, length: u16) -> bool {
+    if operation == ADD {
         let end = u32::from(key) + u32::from(length);
         (1..=65_534).contains(&length) && end <= MAX_END
     } else {
@@ -186,7 +203,7 @@ pub fn is_call_length(layout: u16, operation: u16, key: u16, length: u16) -> boo
     }
 }
 
-/// Starts a call on a worker. Refusals 1, 2, 3, 6, 4, 5.
+/// Starts a call on a worker. Refusals 1, 2, 12, 3, 6, 4, 5.
 pub fn start(
     arena: &mut [u16],
     worker: u16,
@@ -207,7 +224,7 @@ pub fn start(
     }
     let is_good = (ADD..=CONTAINS).contains(&operation)
         && is_call_key(key)
-        && is_call_length(shape.layout, operation, key, length);
+        && is_call_length(operation, key, length);
     if !is_good {
         return Err(BAD_CALL);
     }
@@ -217,7 +234,7 @@ pub fn start(
 }
 
 /// Writes the keys of the set in rising order (document 01: the roll) and gives their count. Keys are
-/// gathered aside, since a refusal writes nothing. Refusals 1, 2, 7, 8.
+/// gathered aside, since a refusal writes nothing. Refusals 1, 2, 12, 7, 8.
 pub fn snapshot(arena: &[u16], out: &mut [u16]) -> Result<usize, u16> {
     let shape = check_header(arena)?;
     let mut keys = [0; MAX_NODES as usize];
@@ -234,7 +251,11 @@ pub fn snapshot(arena: &[u16], out: &mut [u16]) -> Result<usize, u16> {
 /// Goes along the chain and shows where the record of each node of the set stands, in rising order:
 /// marked nodes are passed over, but their links and keys must be as good as the others'. A refusal
 /// may come after some nodes have been shown. Refusal 7.
-pub fn walk_set(arena: &[u16], shape: Shape, mut show: impl FnMut(usize)) -> Result<(), u16> {
+pub fn walk_set<const LAYOUT: u16>(
+    arena: &[u16],
+    shape: ShapeIn<LAYOUT>,
+    mut show: impl FnMut(usize),
+) -> Result<(), u16> {
     let mut last_key = arena[shape.node_at(HEAD) + KEY];
     let mut node = arena[shape.node_at(HEAD) + NEXT];
     // Keys must go up, so no node is met twice, and this ends on any arena.
@@ -256,7 +277,7 @@ pub fn walk_set(arena: &[u16], shape: Shape, mut show: impl FnMut(usize)) -> Res
     Ok(())
 }
 
-/// What a set holds of a label; membership goes by the key alone. In layout 1 lengths are 0.
+/// What a set holds of a label; membership goes by the key alone.
 #[derive(Clone, Copy, Debug, PartialEq, Eq, Hash)]
 pub struct Label {
     pub key: u16,
@@ -265,11 +286,10 @@ pub struct Label {
 
 impl Label {
     /// The label of the node whose record stands here.
-    pub fn read(arena: &[u16], shape: Shape, at: usize) -> Label {
-        let record = &arena[at..at + shape.node_words()];
+    pub fn read(arena: &[u16], at: usize) -> Label {
         Label {
-            key: record[KEY],
-            length: record.get(LENGTH).copied().unwrap_or(0),
+            key: arena[at + KEY],
+            length: arena[at + LENGTH],
         }
     }
 }
@@ -281,12 +301,16 @@ pub fn length_in(set: &[Label], key: u16) -> Option<u16> {
 }
 
 /// The set that the arena stands for: labels of the unmarked nodes on the chain, Head and Tail left
-/// out, in chain order. On an arena with a bad header the set is empty.
+/// out, in chain order. On an arena whose header is refused the set is empty.
 pub fn set(arena: &[u16]) -> Vec<Label> {
-    let Ok(shape) = check_header(arena) else {
-        return Vec::new();
-    };
-    let mut labels = Vec::new();
+    let places = check_header(arena).map(|shape| set_places(arena, shape));
+    let places = places.unwrap_or_default().into_iter();
+    places.map(|at| Label::read(arena, at)).collect()
+}
+
+/// Where the records of those nodes stand.
+pub fn set_places<const LAYOUT: u16>(arena: &[u16], shape: ShapeIn<LAYOUT>) -> Vec<usize> {
+    let mut places = Vec::new();
     let mut met = vec![false; shape.nodes as usize];
     met[HEAD as usize] = true;
     let mut node = arena[shape.node_at(HEAD) + NEXT];
@@ -294,9 +318,9 @@ pub fn set(arena: &[u16]) -> Vec<Label> {
         met[node as usize] = true;
         let at = shape.node_at(node);
         if arena[at + MARK] == 0 {
-            labels.push(Label::read(arena, shape, at));
+            places.push(at);
         }
         node = arena[at + NEXT];
     }
-    labels
+    places
 }

@@ -114,7 +114,7 @@ fn board_line(line: &[u8]) -> Option<(u16, u16)> {
     let (word, numbers) = fields(line)?;
     match (word, &numbers[..]) {
         (b"board", &[workers, nodes]) => {
-            let shape = Shape::new(LAYOUT_2, workers, nodes)?;
+            let shape = Shape::new(workers, nodes)?;
             Some((shape.workers, shape.nodes))
         }
         _ => None,

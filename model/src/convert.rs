@@ -8,17 +8,14 @@ pub const SHARED_WORDS: usize = LENGTH;
 /// Writes an arena of layout 1 anew in layout 2, with the lent lengths, one for each node number.
 /// Refusals 1, 2, 6, 4, 7, 8, 5.
 pub fn to_layout_2(source: &[u16], lengths: &[u16], target: &mut [u16]) -> Result<(), u16> {
-    let (shape, set) = set_at_rest(source, LAYOUT_1)?;
+    let (shape, set) = set_at_rest::<LAYOUT_1>(source)?;
     let nodes = shape.nodes as usize;
-    let new_shape = Shape {
-        layout: LAYOUT_2,
-        ..shape
-    };
+    let new_shape: Shape = shape.in_layout();
     if target.len() < new_shape.total() || lengths.len() < nodes {
         return Err(NO_ROOM);
     }
     let key = |node: u16| source[shape.node_at(node) + KEY];
-    let is_good = |&node: &u16| is_call_length(LAYOUT_2, ADD, key(node), lengths[node as usize]);
+    let is_good = |&node: &u16| is_call_length(ADD, key(node), lengths[node as usize]);
     if !set.iter().all(is_good) {
         return Err(BAD_CALL);
     }
@@ -36,16 +33,13 @@ pub fn to_layout_2(source: &[u16], lengths: &[u16], target: &mut [u16]) -> Resul
 /// Writes an arena of layout 2 anew in layout 1, which has neither count nor lengths: each label of
 /// the set must be 1 cell long. Refusals 1, 2, 6, 4, 7, 8, 5.
 pub fn to_layout_1(source: &[u16], target: &mut [u16]) -> Result<(), u16> {
-    let (shape, set) = set_at_rest(source, LAYOUT_2)?;
-    let new_shape = Shape {
-        layout: LAYOUT_1,
-        ..shape
-    };
+    let (shape, set) = set_at_rest::<LAYOUT_2>(source)?;
+    let new_shape: OldShape = shape.in_layout();
     if target.len() < new_shape.total() {
         return Err(NO_ROOM);
     }
-    let label = |node: u16| Label::read(source, shape, shape.node_at(node));
-    let is_good = |Label { key, length }| length == 1 && is_call_length(LAYOUT_2, ADD, key, length);
+    let label = |node: u16| Label::read(source, shape.node_at(node));
+    let is_good = |Label { key, length }| length == 1 && is_call_length(ADD, key, length);
     if !set.iter().all(|&node| is_good(label(node))) {
         return Err(BAD_CALL);
     }
@@ -55,11 +49,8 @@ pub fn to_layout_1(source: &[u16], target: &mut [u16]) -> Result<(), u16> {
 
 /// The shape of an arena of this layout on which every worker is idle, and the nodes of its set.
 /// Of a worker the stage alone is judged. Refusals 1, 2, 6, 4, 7.
-fn set_at_rest(source: &[u16], layout: u16) -> Result<(Shape, Vec<u16>), u16> {
-    let shape = check_header(source)?;
-    if shape.layout != layout {
-        return Err(ODD_HEADER);
-    }
+fn set_at_rest<const LAYOUT: u16>(source: &[u16]) -> Result<(ShapeIn<LAYOUT>, Vec<u16>), u16> {
+    let shape = check_layout(source)?;
     let workers = 0..shape.workers;
     let stages: Vec<u16> = workers
         .map(|worker| source[shape.worker_at(worker) + STAGE])
@@ -72,14 +63,20 @@ fn set_at_rest(source: &[u16], layout: u16) -> Result<(Shape, Vec<u16>), u16> {
     }
     let mut set = Vec::new();
     walk_set(source, shape, |at| {
-        let node = (at - shape.node_at(0)) / shape.node_words();
+        let node = (at - shape.node_at(0)) / ShapeIn::<LAYOUT>::NODE_WORDS;
         set.push(node as u16);
     })?;
     Ok((shape, set))
 }
 
 /// Copies all words that both layouts have, behind a header of the new shape.
-fn rewrite(source: &[u16], shape: Shape, target: &mut [u16], new_shape: Shape, count: u16) {
+fn rewrite<const FROM: u16, const TO: u16>(
+    source: &[u16],
+    shape: ShapeIn<FROM>,
+    target: &mut [u16],
+    new_shape: ShapeIn<TO>,
+    count: u16,
+) {
     target[..HEADER_WORDS].copy_from_slice(&new_shape.header(count));
     let workers = HEADER_WORDS..shape.node_at(0);
     target[workers.clone()].copy_from_slice(&source[workers]);

@@ -11,7 +11,7 @@ pub struct Found {
     pub reads: u16,
 }
 
-/// Searches for a free node. Refusals 1, 2.
+/// Searches for a free node. Refusals 1, 2, 12.
 pub fn find_free(arena: &[u16]) -> Result<Found, u16> {
     let shape = check_header(arena)?;
     Ok(find_free_in(arena, shape))

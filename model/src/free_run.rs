@@ -14,16 +14,13 @@ pub struct FreeRun {
 }
 
 /// The longest free run of the cells from 1 to the last one; the lower first cell decides between
-/// equals. Refusals 1, 2, 5, 7, 13.
+/// equals. Refusals 1, 2, 12, 5, 7.
 pub fn longest_free_run(arena: &[u16], last_cell: u16) -> Result<FreeRun, u16> {
     let shape = check_header(arena)?;
     if !(1..=MAX_LAST_CELL).contains(&last_cell) {
         return Err(BAD_CALL);
     }
     let is_covered = covered_cells(arena, shape, last_cell)?;
-    if shape.layout == LAYOUT_1 {
-        return Err(LENGTHS_MISSING);
-    }
     let mut longest = FreeRun::default();
     let mut first = 1;
     // Neighbours that are free alike, or covered alike, together.
@@ -45,7 +42,7 @@ fn covered_cells(arena: &[u16], shape: Shape, last_cell: u16) -> Result<Vec<bool
     let cells = last_cell as usize + 1;
     let mut is_covered = vec![false; cells];
     walk_set(arena, shape, |at| {
-        let label = Label::read(arena, shape, at);
+        let label = Label::read(arena, at);
         let from = label.key as usize;
         let end = from + label.length as usize;
         is_covered[from.min(cells)..end.min(cells)].fill(true);

@@ -26,6 +26,7 @@ pub mod selftest_counts;
 pub mod selftest_free;
 pub mod selftest_free_runs;
 pub mod selftest_lengths;
+pub mod selftest_old;
 pub mod selftest_plain;
 pub mod selftest_plain_convert;
 pub mod selftest_plain_free_runs;

@@ -16,7 +16,7 @@ const POINT: usize = 4;
 const FINISH: usize = 5;
 const CALL_ANSWER: usize = 6;
 
-/// Runs a schedule on an arena of layout 2 that it inits itself; history and waits are in flat
+/// Runs a schedule on an arena that it inits itself; history and waits are in flat
 /// words, and words past their records stay. Refusals 10, 9, 1, 8.
 pub fn run(
     arena: &mut [u16],
@@ -26,7 +26,7 @@ pub fn run(
     history: &mut [u16],
     waits: &mut [u16],
 ) -> Result<Totals, u16> {
-    let shape = Shape::new(LAYOUT_2, workers, nodes).ok_or(BAD_COUNTS)?;
+    let shape = Shape::new(workers, nodes).ok_or(BAD_COUNTS)?;
     if !schedule.len().is_multiple_of(ENTRY_WORDS) || schedule.len() > MAX_SCHEDULE_WORDS {
         return Err(BAD_SCHEDULE);
     }
@@ -37,7 +37,7 @@ pub fn run(
     if starts > history.len() / CALL_WORDS || turns > waits.len() / WAIT_WORDS {
         return Err(NO_ROOM);
     }
-    init(arena, LAYOUT_2, workers, nodes)?;
+    init(arena, workers, nodes)?;
     let mut run = Run {
         arena,
         shape,

@@ -7,11 +7,8 @@ use crate::convert::SHARED_WORDS;
 
 /// Writes an arena of layout 1 anew in layout 2. Refusals 1, 2, 6, 4, 7, 8, 5.
 pub fn to_layout_2(source: &[u16], lengths: &[u16], target: &mut [u16]) -> Result<(), u16> {
-    let shape = shape_at_rest(source, LAYOUT_1)?;
-    let new_shape = Shape {
-        layout: LAYOUT_2,
-        ..shape
-    };
+    let shape: OldShape = shape_at_rest(source)?;
+    let new_shape: Shape = shape.in_layout();
     // Kept aside, since a refusal writes nothing, and a second walk takes longer.
     let mut set = [0; MAX_NODES as usize];
     let (mut count, mut all_good) = (0, true);
@@ -21,7 +18,7 @@ pub fn to_layout_2(source: &[u16], lengths: &[u16], target: &mut [u16]) -> Resul
         count += 1;
         // Where lengths are missing, 8 comes before any of them is judged.
         let length = lengths.get(node).copied().unwrap_or(1);
-        all_good &= is_call_length(LAYOUT_2, ADD, source[at + KEY], length);
+        all_good &= is_call_length(ADD, source[at + KEY], length);
     })?;
     let lent = target.get_mut(..new_shape.total()).ok_or(NO_ROOM)?;
     if lengths.len() < shape.nodes as usize {
@@ -32,24 +29,21 @@ pub fn to_layout_2(source: &[u16], lengths: &[u16], target: &mut [u16]) -> Resul
     }
     let nodes = copy_workers(source, shape, lent, new_shape.header(count as u16));
     let old_records = source[shape.node_at(0)..].chunks_exact(SHARED_WORDS);
-    for (record, old) in nodes.chunks_exact_mut(MAX_NODE_WORDS).zip(old_records) {
+    for (record, old) in nodes.chunks_exact_mut(NODE_WORDS).zip(old_records) {
         record[..SHARED_WORDS].copy_from_slice(old);
         record[LENGTH] = 0;
     }
     for &node in &set[..count] {
         let node = usize::from(node);
-        nodes[MAX_NODE_WORDS * node + LENGTH] = lengths[node];
+        nodes[NODE_WORDS * node + LENGTH] = lengths[node];
     }
     Ok(())
 }
 
 /// Writes an arena of layout 2 anew in layout 1. Refusals 1, 2, 6, 4, 7, 8, 5.
 pub fn to_layout_1(source: &[u16], target: &mut [u16]) -> Result<(), u16> {
-    let shape = shape_at_rest(source, LAYOUT_2)?;
-    let new_shape = Shape {
-        layout: LAYOUT_1,
-        ..shape
-    };
+    let shape: Shape = shape_at_rest(source)?;
+    let new_shape: OldShape = shape.in_layout();
     let mut all_good = true;
     walk_set(source, shape, |at| {
         all_good &= source[at + LENGTH] == 1 && source[at + KEY] < TAIL_KEY;
@@ -59,7 +53,7 @@ pub fn to_layout_1(source: &[u16], target: &mut [u16]) -> Result<(), u16> {
         return Err(BAD_CALL);
     }
     let nodes = copy_workers(source, shape, lent, new_shape.header(0));
-    let old_records = source[shape.node_at(0)..].chunks_exact(MAX_NODE_WORDS);
+    let old_records = source[shape.node_at(0)..].chunks_exact(NODE_WORDS);
     for (record, old) in nodes.chunks_exact_mut(SHARED_WORDS).zip(old_records) {
         record.copy_from_slice(&old[..SHARED_WORDS]);
     }
@@ -67,11 +61,8 @@ pub fn to_layout_1(source: &[u16], target: &mut [u16]) -> Result<(), u16> {
 }
 
 /// The shape of an arena of this layout on which every worker is idle. Refusals 1, 2, 6, 4.
-fn shape_at_rest(source: &[u16], layout: u16) -> Result<Shape, u16> {
-    let shape = check_header(source)?;
-    if shape.layout != layout {
-        return Err(ODD_HEADER);
-    }
+fn shape_at_rest<const LAYOUT: u16>(source: &[u16]) -> Result<ShapeIn<LAYOUT>, u16> {
+    let shape: ShapeIn<LAYOUT> = check_layout(source)?;
     let records = source[HEADER_WORDS..shape.node_at(0)].chunks_exact(WORKER_WORDS);
     match records.map(|record| record[STAGE]).max() {
         Some(1..=25) => Err(BUSY),
@@ -81,9 +72,9 @@ fn shape_at_rest(source: &[u16], layout: u16) -> Result<Shape, u16> {
 }
 
 /// Writes the header and copies the worker records; gives back the place for the node records.
-fn copy_workers<'a>(
+fn copy_workers<'a, const LAYOUT: u16>(
     source: &[u16],
-    shape: Shape,
+    shape: ShapeIn<LAYOUT>,
     target: &'a mut [u16],
     header: [u16; HEADER_WORDS],
 ) -> &'a mut [u16] {

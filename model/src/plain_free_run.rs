@@ -5,7 +5,7 @@
 use crate::arena::*;
 use crate::free_run::{FreeRun, MAX_LAST_CELL};
 
-/// The longest free run of the cells from 1 to the last one. Refusals 1, 2, 5, 7, 13.
+/// The longest free run of the cells from 1 to the last one. Refusals 1, 2, 12, 5, 7.
 pub fn longest_free_run(arena: &[u16], last_cell: u16) -> Result<FreeRun, u16> {
     let shape = check_header(arena)?;
     if !(1..=MAX_LAST_CELL).contains(&last_cell) {
@@ -23,7 +23,7 @@ pub fn longest_free_run(arena: &[u16], last_cell: u16) -> Result<FreeRun, u16> {
         }
     };
     walk_set(arena, shape, |at| {
-        let label = Label::read(arena, shape, at);
+        let label = Label::read(arena, at);
         // A label without length parts no cells.
         if label.length != 0 {
             let key = u32::from(label.key);
@@ -31,9 +31,6 @@ pub fn longest_free_run(arena: &[u16], last_cell: u16) -> Result<FreeRun, u16> {
             from = from.max(key + u32::from(label.length));
         }
     })?;
-    if shape.layout == LAYOUT_1 {
-        return Err(LENGTHS_MISSING);
-    }
     note_gap(from, all_end);
     Ok(FreeRun {
         first: first as u16,

@@ -112,7 +112,7 @@ pub struct Trace {
     taken_nodes: Vec<u16>,
 }
 
-/// Runs a schedule on an arena of layout 2 that it inits itself. Refusals 10, 9, 1, 8.
+/// Runs a schedule on an arena that it inits itself. Refusals 10, 9, 1, 8.
 pub fn run_traced(
     arena: &mut [u16],
     workers: u16,
@@ -120,7 +120,7 @@ pub fn run_traced(
     schedule: &[u16],
     room: Room,
 ) -> Result<Trace, u16> {
-    let shape = Shape::new(LAYOUT_2, workers, nodes).ok_or(BAD_COUNTS)?;
+    let shape = Shape::new(workers, nodes).ok_or(BAD_COUNTS)?;
     if !schedule.len().is_multiple_of(ENTRY_WORDS) || schedule.len() > MAX_SCHEDULE_WORDS {
         return Err(BAD_SCHEDULE);
     }
@@ -130,12 +130,7 @@ pub fn run_traced(
     if !room.is_enough(schedule) {
         return Err(NO_ROOM);
     }
-    init(arena, LAYOUT_2, workers, nodes)?;
-    Ok(trace_entries(arena, shape, schedule))
-}
-
-/// Makes the entries of a schedule on a fresh arena of either layout.
-pub fn trace_entries(arena: &mut [u16], shape: Shape, schedule: &[u16]) -> Trace {
+    init(arena, workers, nodes)?;
     let mut trace = Trace {
         shape,
         ..Trace::default()
@@ -144,7 +139,7 @@ pub fn trace_entries(arena: &mut [u16], shape: Shape, schedule: &[u16]) -> Trace
     for entry in schedule.chunks(ENTRY_WORDS) {
         trace.entry(arena, entry);
     }
-    trace
+    Ok(trace)
 }
 
 impl Trace {

@@ -17,9 +17,9 @@ pub struct Script {
 impl Script {
     /// For good counts only.
     pub fn new(workers: u16, nodes: u16) -> Script {
-        let shape = Shape::new(LAYOUT_2, workers, nodes).expect("good counts");
+        let shape = Shape::new(workers, nodes).expect("good counts");
         let mut arena = vec![0; shape.total()];
-        init(&mut arena, LAYOUT_2, workers, nodes).expect("words enough");
+        init(&mut arena, workers, nodes).expect("words enough");
         Script {
             text: format!("board {workers} {nodes}\n"),
             entries: 0,

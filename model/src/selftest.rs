@@ -13,10 +13,12 @@ use crate::selftest_counts;
 use crate::selftest_free;
 use crate::selftest_free_runs;
 use crate::selftest_lengths;
+use crate::selftest_old;
 use crate::selftest_plain;
 use crate::selftest_plain_convert;
 use crate::selftest_plain_free_runs;
 use crate::selftest_refusals;
+use crate::selftest_refusals::refused;
 use crate::selftest_roll;
 use crate::selftest_searches;
 use crate::selftest_waits;
@@ -124,14 +126,13 @@ pub fn selftest() -> Checks {
         checks.check(case.name, output.starts_with(case.expects.as_bytes()));
     }
     small_arenas(&mut checks);
-    for layout in LAYOUTS {
-        second_add_waits(&mut checks, layout);
-        turns_of_calls(&mut checks, layout);
-    }
+    second_add_waits(&mut checks);
+    turns_of_calls(&mut checks);
     right_histories(&mut checks);
     wrong_histories(&mut checks);
     told_answers(&mut checks);
     selftest_refusals::refusals(&mut checks);
+    selftest_old::old_arenas(&mut checks);
     selftest_waits::waits(&mut checks);
     selftest_lengths::lengths(&mut checks);
     selftest_counts::counts(&mut checks);
@@ -150,48 +151,54 @@ pub fn selftest() -> Checks {
 
 pub fn fresh(shape: Shape) -> Vec<u16> {
     let mut arena = vec![0; shape.total()];
-    init(&mut arena, shape.layout, shape.workers, shape.nodes).expect("a good shape");
+    init(&mut arena, shape.workers, shape.nodes).expect("a good shape");
     arena
 }
 
 /// A start with a length that it may carry.
 pub fn good_start(arena: &mut [u16], worker: u16, operation: u16, key: u16) -> Result<(), u16> {
-    let has_length = arena[0] == LAYOUT_2 && operation == ADD;
-    start(arena, worker, operation, key, u16::from(has_length))
+    start(arena, worker, operation, key, u16::from(operation == ADD))
 }
 
-/// The cases of "Small boards" that are not about numbers of turns.
+/// The cases of "Small boards" that are not about numbers of turns, for layout 2.
 fn small_arenas(checks: &mut Checks) {
-    let mut arena = vec![9; 30];
-    checks.check("W 1, N 3", init(&mut arena, 1, 1, 3).is_ok());
-    checks.check("W 1, N 3 header", arena[..8] == [1, 1, 3, 8, 16, 28, 0, 0]);
+    let mut arena = vec![9; 33];
+    checks.check("W 1, N 3", init(&mut arena, 1, 3).is_ok());
+    checks.check("W 1, N 3 header", arena[..8] == [2, 1, 3, 8, 16, 31, 0, 0]);
     checks.check("idle worker", arena[8..16] == IDLE_WORKER);
-    let nodes = [0, 1, 0, 0, 65_535, 1, 0, 0, 0, 0, 0, 0];
-    checks.check("fresh nodes", arena[16..28] == nodes);
-    checks.check("past the total", arena[28..] == [9, 9]);
-    checks.check("27 words", init(&mut [0; 27], 1, 1, 3) == Err(1));
-    for layout in LAYOUTS {
-        checks.check("N 2", init(&mut [0; 31], layout, 1, 2) == Err(10));
-        checks.check("W 9", init(&mut [0; 9_000], layout, 9, 3) == Err(10));
-        checks.check("N 1024", init(&mut [0; 9_000], layout, 1, 1_024).is_ok());
-        checks.check("N 1025", init(&mut [0; 9_000], layout, 1, 1_025) == Err(10));
-        let mut arena = fresh(shape(layout, 2, 3));
-        checks.check("idle turn", turn(&mut arena, 0) == Ok(Report::Idle));
-        let mut add = |key| good_start(&mut arena, 0, ADD, key);
-        checks.check("key 0", add(0) == Err(5));
-        checks.check("key 65535", add(65_535) == Err(5));
-        checks.check("key 65534", add(65_534) == Ok(()));
-        checks.check("busy, key 0", add(0) == Err(4));
+    let nodes = [0, 1, 0, 0, 0, 65_535, 1, 0, 0, 0, 0, 0, 0, 0, 0];
+    checks.check("fresh nodes", arena[16..31] == nodes);
+    checks.check("past the total", arena[31..] == [9, 9]);
+    for words in [28, 30] {
+        refused(checks, "too few words", 1, vec![9; words], |a| {
+            init(a, 1, 3)
+        });
     }
+    checks.check("N 2", init(&mut [0; 31], 1, 2) == Err(10));
+    checks.check("W 9", init(&mut [0; 9_000], 9, 3) == Err(10));
+    checks.check("N 1024", init(&mut [0; 9_000], 1, 1_024).is_ok());
+    checks.check("N 1025", init(&mut [0; 9_000], 1, 1_025) == Err(10));
+    checks.check("the most words", MAX_WORDS == 5_192);
+    checks.check("they do", init(&mut [0; MAX_WORDS], 8, 1_024).is_ok());
+    refused(checks, "one less", 1, vec![0; MAX_WORDS - 1], |a| {
+        init(a, 8, 1_024)
+    });
+    let mut arena = fresh(shape(2, 3));
+    checks.check("idle turn", turn(&mut arena, 0) == Ok(Report::Idle));
+    let mut add = |key| good_start(&mut arena, 0, ADD, key);
+    checks.check("key 0", add(0) == Err(5));
+    checks.check("key 65535", add(65_535) == Err(5));
+    checks.check("key 65534", add(65_534) == Ok(()));
+    checks.check("busy, key 0", add(0) == Err(4));
 }
 
-fn shape(layout: u16, workers: u16, nodes: u16) -> Shape {
-    Shape::new(layout, workers, nodes).expect("a good shape")
+fn shape(workers: u16, nodes: u16) -> Shape {
+    Shape::new(workers, nodes).expect("a good shape")
 }
 
 /// Two adds on an empty set meet at Head.
-fn second_add_waits(checks: &mut Checks, layout: u16) {
-    let mut arena = fresh(shape(layout, 2, 3));
+fn second_add_waits(checks: &mut Checks) {
+    let mut arena = fresh(shape(2, 3));
     let started = [0, 1].map(|worker| good_start(&mut arena, worker, ADD, 5));
     checks.check("two adds", started == [Ok(()); 2]);
     let last = (0..4).map(|_| turn(&mut arena, 0)).last();
@@ -225,8 +232,8 @@ fn turns_alone(arena: &mut [u16], operation: u16, key: u16) -> (u32, Option<Answ
     (count, None)
 }
 
-fn turns_of_calls(checks: &mut Checks, layout: u16) {
-    let mut arena = fresh(shape(layout, 1, 3));
+fn turns_of_calls(checks: &mut Checks) {
+    let mut arena = fresh(shape(1, 3));
     let mut expect = |name, operation, key, count, answer| {
         let turns = turns_alone(&mut arena, operation, key);
         checks.check(name, turns == (count, Some(answer)));

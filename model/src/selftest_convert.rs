@@ -17,7 +17,7 @@ pub fn converters(checks: &mut Checks) {
     marks(checks);
     counts(checks);
     idle_records(checks);
-    same_calls(checks);
+    between_calls(checks);
     goes_on(checks);
 }
 
@@ -109,18 +109,30 @@ fn by_hand(checks: &mut Checks) {
     checks.check("its lengths", set(&NEW).iter().map(|l| l.length).eq([3, 5]));
 }
 
-fn keys(arena: &[u16]) -> Vec<u16> {
-    set(arena).iter().map(|label| label.key).collect()
+/// The keys of the set of an arena of either layout.
+pub fn keys(arena: &[u16]) -> Vec<u16> {
+    let old = OldShape::read(arena).map(|shape| set_places(arena, shape));
+    let new = Shape::read(arena).map(|shape| set_places(arena, shape));
+    let places = old.or(new).unwrap_or_default().into_iter();
+    places.map(|at| arena[at + KEY]).collect()
+}
+
+/// The words in layout 1: another header, and no node has a fifth word.
+pub fn old_words(new: &[u16]) -> Vec<u16> {
+    let shape = Shape::read(new).expect("a good header");
+    let old: OldShape = shape.in_layout();
+    let mut words = [&old.header(0), &new[HEADER_WORDS..shape.node_at(0)]].concat();
+    for record in new[shape.node_at(0)..].chunks_exact(NODE_WORDS) {
+        words.extend(&record[..LENGTH]);
+    }
+    words
 }
 
 /// An arena of layout 1 whose chain goes through these nodes, with keys 10, 20, and so on.
 pub fn chained(nodes: u16, chain: &[u16]) -> Vec<u16> {
-    let mut arena = fresh(Shape {
-        layout: LAYOUT_1,
-        workers: 3,
-        nodes,
-    });
-    let at = |node: u16| 32 + 4 * usize::from(node);
+    let shape = OldShape { workers: 3, nodes };
+    let mut arena = old_words(&fresh(shape.in_layout()));
+    let at = |node: u16| shape.node_at(node);
     let mut last = HEAD;
     for (place, &node) in (1..).zip(chain) {
         arena[at(last) + NEXT] = node;
@@ -197,7 +209,7 @@ fn counts(checks: &mut Checks) {
             let converted = in_layout_2(&source, &lengths, total);
             let converted = converted.and_then(Result::ok).unwrap_or_default();
             let name = format!("{size} of {nodes} nodes");
-            checks.check(&name, stored(&converted) == Ok(Some(size)));
+            checks.check(&name, stored(&converted) == Ok(size));
             checks.check(&name, set(&converted).len() == usize::from(size));
             let back = in_layout_1(&converted, source.len());
             checks.check(&name, back == Some(Ok(source)));
@@ -227,16 +239,15 @@ fn whole_call(arena: &mut [u16], operation: u16, key: u16) -> bool {
         && (0..60).any(|_| matches!(turn(arena, 0), Ok(Report::Finished(_))))
 }
 
-/// The same calls in both layouts: at rest each arena converts to the other, but for the lengths that
-/// removed nodes keep in layout 2.
-fn same_calls(checks: &mut Checks) {
-    let shape = |layout| Shape {
-        layout,
+/// Between calls, whose adds have length 1, an arena has its words in layout 1, and from there back all
+/// but the lengths that removed nodes keep.
+fn between_calls(checks: &mut Checks) {
+    let shape = Shape {
         workers: 2,
         nodes: 5,
     };
-    let [mut old, mut new] = LAYOUTS.map(|layout| fresh(shape(layout)));
-    let calls = [
+    let mut new = fresh(shape);
+    for (operation, key) in [
         (ADD, 5),
         (ADD, 3),
         (ADD, 9),
@@ -244,18 +255,16 @@ fn same_calls(checks: &mut Checks) {
         (ADD, 3),
         (ADD, 7),
         (REMOVE, 9),
-    ];
-    for (operation, key) in calls {
-        let ended = [&mut old, &mut new].map(|arena| whole_call(arena, operation, key));
-        checks.check("both calls end", ended == [true; 2]);
-        checks.check(
-            "to layout 1",
-            in_layout_1(&new, old.len()) == Some(Ok(old.clone())),
-        );
+    ] {
+        let ended = whole_call(&mut new, operation, key);
+        checks.check("a call ends", ended);
+        let old = old_words(&new);
+        let got = in_layout_1(&new, old.len());
+        checks.check("to layout 1", got == Some(Ok(old.clone())));
         let mut due = new.clone();
-        let is_stored = |node: u16| keys(&new).contains(&new[24 + 5 * usize::from(node) + KEY]);
+        let is_stored = |node: u16| keys(&new).contains(&new[shape.node_at(node) + KEY]);
         let removed = (2..5).filter(|&node| !is_stored(node));
-        removed.for_each(|node| due[24 + 5 * usize::from(node) + LENGTH] = 0);
+        removed.for_each(|node| due[shape.node_at(node) + LENGTH] = 0);
         let got = in_layout_2(&old, &[1; 5], new.len());
         checks.check("to layout 2", got == Some(Ok(due)));
     }
@@ -272,11 +281,11 @@ fn goes_on(checks: &mut Checks) {
     let run = longest_free_run(&new, 40).map(|run| (run.first, run.length));
     checks.check("cells from 1 to 9", run == Ok((1, 9)));
     checks.check("20 goes", whole_call(&mut new, REMOVE, 20));
-    checks.check("two are counted", stored(&new) == Ok(Some(2)));
+    checks.check("two are counted", stored(&new) == Ok(2));
     let run = longest_free_run(&new, 40).map(|run| (run.first, run.length));
     checks.check("cells from 18 to 29", run == Ok((18, 12)));
     checks.check("25 comes", whole_call(&mut new, ADD, 25));
-    checks.check("three again", stored(&new) == Ok(Some(3)));
+    checks.check("three again", stored(&new) == Ok(3));
     let due = [label(10, 8), label(25, 1), label(30, 1)];
     checks.check("its length is 1", set(&new) == due);
     checks.check("10 is too long", in_layout_1(&new, 56) == Some(Err(5)));

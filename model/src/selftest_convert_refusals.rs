@@ -13,7 +13,7 @@ const NODES_AT: usize = 32;
 const CHAIN: [u16; 3] = [4, 3, 5];
 
 pub fn refusals(checks: &mut Checks) {
-    for layout in LAYOUTS {
+    for layout in [LAYOUT_1, LAYOUT_2] {
         short_sources(checks, layout);
         headers(checks, layout);
         stages(checks, layout);

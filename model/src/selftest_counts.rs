@@ -1,4 +1,4 @@
-//! The count of layout 2, worked out by hand from document 02 and held against the set at every time.
+//! The count, worked out by hand from document 02 and held against the set at every time.
 
 use crate::arena::*;
 use crate::bench::{evaluate, Outcome};
@@ -7,45 +7,38 @@ use crate::free::find_free;
 use crate::free_run::longest_free_run;
 use crate::rng::Rng;
 use crate::selftest::{fresh, good_start, Checks};
-use crate::selftest_refusals::{at_stage, refused, SHAPES, STAGES};
+use crate::selftest_refusals::{at_stage, refused, SHAPE, STAGES, WORDS};
 use crate::turn::{turn, Report};
 
 pub fn counts(checks: &mut Checks) {
-    for layout in LAYOUTS {
-        for nodes in [3, 4, 5, MAX_NODES] {
-            headers(checks, Shape::new(layout, 1, nodes).expect("good counts"));
-        }
-        at_every_time(checks, layout);
+    for nodes in [3, 4, 5, MAX_NODES] {
+        headers(checks, Shape::new(1, nodes).expect("good counts"));
     }
-    for (shape, _) in SHAPES {
-        by_hand(checks, shape);
-        stages(checks, shape);
-        after_6_and_7(checks, shape);
-    }
+    at_every_time(checks);
+    by_hand(checks);
+    stages(checks);
+    after_6_and_7(checks);
     order_of_turn(checks);
     wrong_number(checks);
     wrong_counts(checks);
 }
 
-/// In layout 2 word 6 is at most N less 2, in layout 1 it is 0; each function says so, and none
-/// compares it with the chain.
+/// Word 6 is at most N less 2; each function says so, and none compares it with the chain.
 fn headers(checks: &mut Checks, shape: Shape) {
     let nodes = shape.nodes;
     for word in [0, 1, nodes - 3, nodes - 2, nodes - 1, nodes, NONE] {
         let mut arena = fresh(shape);
         arena[COUNT] = word;
-        let in_2 = shape.layout == LAYOUT_2;
-        let is_good = word == 0 || (in_2 && word <= nodes - 2);
+        let is_good = word <= nodes - 2;
         let due = if is_good { Ok(()) } else { Err(ODD_HEADER) };
-        let no_lengths = if in_2 { due } else { due.and(Err(13)) };
         let name = format!("count {word} of {shape:?}");
         let told = stored(&arena);
-        checks.check(&name, told == due.map(|()| in_2.then_some(word)));
+        checks.check(&name, told == due.map(|()| word));
         let free = find_free(&arena).map(|found| found.node);
         checks.check(&name, free == due.map(|()| Some(2)));
         checks.check(&name, snapshot(&arena, &mut []) == due.map(|()| 0));
         let run = longest_free_run(&arena, 9).map(|run| run.length);
-        checks.check(&name, run == no_lengths.map(|()| 9));
+        checks.check(&name, run == due.map(|()| 9));
         let report = turn(&mut arena, 0);
         checks.check(&name, report == due.map(|()| Report::Idle));
         checks.check(&name, good_start(&mut arena, 0, ADD, 5) == due);
@@ -60,20 +53,20 @@ fn advance(arena: &mut [u16], shape: Shape, stage: u16) -> bool {
 }
 
 /// One label comes in by the turn at 15 and goes out by the turn at 16, which marks it.
-fn by_hand(checks: &mut Checks, shape: Shape) {
+fn by_hand(checks: &mut Checks) {
+    let shape = SHAPE;
     let mut arena = fresh(shape);
-    let one = u16::from(shape.layout == LAYOUT_2);
     for (operation, stage, count) in [
         (ADD, 15, 0),
-        (ADD, 19, one),
-        (ADD, 0, one),
-        (REMOVE, 16, one),
+        (ADD, 19, 1),
+        (ADD, 0, 1),
+        (REMOVE, 16, 1),
         (REMOVE, 17, 0),
         (REMOVE, 18, 0),
         (REMOVE, 0, 0),
         // The node that was removed is taken again.
         (ADD, 14, 0),
-        (ADD, 0, one),
+        (ADD, 0, 1),
     ] {
         let at = shape.worker_at(0) + STAGE;
         if arena[at] == 0 {
@@ -87,18 +80,17 @@ fn by_hand(checks: &mut Checks, shape: Shape) {
 }
 
 /// A turn at 15 or 16 counts, or is refused at the end of the range; no other turn looks at the count.
-fn stages(checks: &mut Checks, shape: Shape) {
-    let in_2 = shape.layout == LAYOUT_2;
+fn stages(checks: &mut Checks) {
     for (stage, operations, _) in STAGES {
-        let mut usual = at_stage(shape, stage, operations[0]);
+        let mut usual = at_stage(stage, operations[0]);
         let usual_report = turn(&mut usual, 0);
-        for count in 0..=shape.max_count() {
-            let mut arena = at_stage(shape, stage, operations[0]);
+        for count in 0..=2 {
+            let mut arena = at_stage(stage, operations[0]);
             arena[COUNT] = count;
             let before = arena.clone();
             let due = match stage {
-                15 if in_2 => (count < 2).then(|| count + 1),
-                16 if in_2 => count.checked_sub(1),
+                15 => (count < 2).then(|| count + 1),
+                16 => count.checked_sub(1),
                 _ => Some(count),
             };
             let report = turn(&mut arena, 0);
@@ -116,22 +108,23 @@ fn stages(checks: &mut Checks, shape: Shape) {
 
 /// At the end of the range a broken record is refused with 6, and a broken link with 7: stages that
 /// read a link do not count.
-fn after_6_and_7(checks: &mut Checks, shape: Shape) {
-    for (stage, count) in [(15, shape.max_count()), (16, 0)] {
+fn after_6_and_7(checks: &mut Checks) {
+    let shape = SHAPE;
+    for (stage, count) in [(15, 2), (16, 0)] {
         let operation = if stage == 15 { ADD } else { REMOVE };
         let broken = [(OPERATION, CONTAINS), (CALL_KEY, 0), (CALL_KEY, TAIL_KEY)];
         let nodes: &[usize] = if stage == 15 { &[PRED, SPARE] } else { &[CURR] };
         let nodes = nodes.iter().map(|&word| (word, shape.nodes));
         for (word, value) in broken.into_iter().chain(nodes) {
-            let mut arena = at_stage(shape, stage, operation);
+            let mut arena = at_stage(stage, operation);
             arena[COUNT] = count;
             arena[shape.worker_at(0) + word] = value;
             refused(checks, "6 before 14", BROKEN_RECORD, arena, |a| turn(a, 0));
         }
     }
     for (stage, operation) in [(2, ADD), (2, REMOVE), (5, ADD), (17, REMOVE)] {
-        for count in [0, shape.max_count()] {
-            let mut arena = at_stage(shape, stage, operation);
+        for count in [0, 2] {
+            let mut arena = at_stage(stage, operation);
             arena[COUNT] = count;
             for node in 0..shape.nodes {
                 arena[shape.node_at(node) + NEXT] = NONE;
@@ -145,7 +138,7 @@ fn after_6_and_7(checks: &mut Checks, shape: Shape) {
 
 /// In each row one more fault is repaired.
 fn order_of_turn(checks: &mut Checks) {
-    let (shape, words) = SHAPES[1];
+    let (shape, words) = (SHAPE, WORDS);
     for (stage, operation, count) in [(15, ADD, 2), (16, REMOVE, 0)] {
         for (number, words, last_word, worker, key) in [
             (1, words - 1, 1, 2, 0),
@@ -154,7 +147,7 @@ fn order_of_turn(checks: &mut Checks) {
             (6, words, 0, 0, 0),
             (14, words, 0, 0, 5),
         ] {
-            let mut arena = at_stage(shape, stage, operation);
+            let mut arena = at_stage(stage, operation);
             (arena[COUNT], arena[7]) = (count, last_word);
             arena[shape.worker_at(0) + CALL_KEY] = key;
             arena.truncate(words);
@@ -166,14 +159,14 @@ fn order_of_turn(checks: &mut Checks) {
 /// On an arena whose count is wrong a turn counts on from it, whatever the chain holds, and an add that
 /// is refused goes on once another worker has taken a label out.
 fn wrong_number(checks: &mut Checks) {
-    let shape = Shape::new(LAYOUT_2, 2, 6).expect("good counts");
+    let shape = Shape::new(2, 6).expect("good counts");
     let mut arena = fresh(shape);
     let added = good_start(&mut arena, 0, ADD, 5);
     checks.check("an add", added.is_ok() && advance(&mut arena, shape, 0));
     arena[COUNT] = 3;
     let added = good_start(&mut arena, 0, ADD, 6);
     checks.check("another", added.is_ok() && advance(&mut arena, shape, 0));
-    checks.check("counted on to 4", stored(&arena) == Ok(Some(4)));
+    checks.check("counted on to 4", stored(&arena) == Ok(4));
     checks.check("two are stored", set(&arena).len() == 2);
     let added = good_start(&mut arena, 0, ADD, 9);
     checks.check("a third", added.is_ok() && advance(&mut arena, shape, 15));
@@ -186,15 +179,15 @@ fn wrong_number(checks: &mut Checks) {
     let removed = good_start(&mut arena, 1, REMOVE, 5);
     checks.check("a remove", removed.is_ok());
     let ends = (0..60).any(|_| matches!(turn(&mut arena, 1), Ok(Report::Finished(_))));
-    checks.check("it ends", ends && stored(&arena) == Ok(Some(3)));
+    checks.check("it ends", ends && stored(&arena) == Ok(3));
     checks.check("goes on", turn(&mut arena, 0) == Ok(Report::Moved(19)));
-    checks.check("counted again", stored(&arena) == Ok(Some(4)));
+    checks.check("counted again", stored(&arena) == Ok(4));
 }
 
 /// Two workers' calls in short bursts on a fresh arena: at every time the count is the size of the set,
-/// and no turn is refused. In layout 1 it is 0.
-fn at_every_time(checks: &mut Checks, layout: u16) {
-    let shape = Shape::new(layout, 3, 6).expect("good counts");
+/// and no turn is refused.
+fn at_every_time(checks: &mut Checks) {
+    let shape = Shape::new(3, 6).expect("good counts");
     let mut arena = fresh(shape);
     let mut rng = Rng::new(6, 6);
     let (mut is_size, mut is_accepted) = (true, true);
@@ -208,9 +201,7 @@ fn at_every_time(checks: &mut Checks, layout: u16) {
             is_accepted &= turn(&mut arena, worker).is_ok();
             let size = set(&arena).len();
             sizes[size] += 1;
-            let due = if layout == LAYOUT_2 { size as u16 } else { 0 };
-            is_size &= arena[COUNT] == due;
-            is_size &= stored(&arena) == Ok((layout == LAYOUT_2).then_some(due));
+            is_size &= stored(&arena) == Ok(size as u16);
         }
     }
     checks.check("the count is the size of the set", is_size);
@@ -236,20 +227,18 @@ fn wrong_counts(checks: &mut Checks) {
         return checks.check("a run with counts", false);
     };
     let (sets, counts) = (&trace.sets, &trace.counts);
-    let is_told = |layout, counts: &[u16]| check_counts(layout, sets, counts).is_err();
-    checks.check("its counts", !is_told(LAYOUT_2, counts));
+    let is_told = |counts: &[u16]| check_counts(sets, counts).is_err();
+    checks.check("its counts", !is_told(counts));
     checks.check("up to two and down", counts.contains(&2) && counts[48] == 1);
-    checks.check("no counts in layout 1", is_told(LAYOUT_1, counts));
-    checks.check("0 in layout 1", !is_told(LAYOUT_1, &vec![0; counts.len()]));
-    checks.check("one left out", is_told(LAYOUT_2, &counts[1..]));
+    checks.check("one left out", is_told(&counts[1..]));
     for place in 0..counts.len() {
         for wrong in [0, 1, 2, 3, NONE] {
             let mut other = counts.clone();
             other[place] = wrong;
             let is_same = counts[place] == wrong;
-            checks.check("wrong count", is_told(LAYOUT_2, &other) != is_same);
+            checks.check("wrong count", is_told(&other) != is_same);
         }
     }
     let late = [&[0], &counts[..counts.len() - 1]].concat();
-    checks.check("an entry late", is_told(LAYOUT_2, &late));
+    checks.check("an entry late", is_told(&late));
 }

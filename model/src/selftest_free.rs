@@ -7,23 +7,17 @@ use crate::selftest_refusals::{refused, STAGES};
 use crate::turn::{turn, Report};
 
 pub fn free_nodes(checks: &mut Checks) {
-    for layout in LAYOUTS {
-        let shape = |workers, nodes| Shape {
-            layout,
-            workers,
-            nodes,
-        };
-        three_nodes(checks, shape(1, 3));
-        many_nodes(checks, shape(MAX_WORKERS, MAX_NODES));
-        let six = shape(2, 6);
-        all_found(checks, six, &CIRCLES);
-        all_found(checks, six, &JOINS);
-        links(checks, six);
-        roots(checks, six);
-        left_over(checks, six);
-        other_words(checks, six);
-        refusals(checks, six);
-    }
+    let shape = |workers, nodes| Shape { workers, nodes };
+    three_nodes(checks, shape(1, 3));
+    many_nodes(checks, shape(MAX_WORKERS, MAX_NODES));
+    let six = shape(2, 6);
+    all_found(checks, six, &CIRCLES);
+    all_found(checks, six, &JOINS);
+    links(checks, six);
+    roots(checks, six);
+    left_over(checks, six);
+    other_words(checks, six);
+    refusals(checks, six);
 }
 
 fn found(checks: &mut Checks, name: &str, arena: &[u16], node: Option<u16>, reads: u16) {
@@ -273,7 +267,7 @@ fn other_words(checks: &mut Checks, shape: Shape) {
         }
     }
     for node in 0..shape.nodes {
-        for place in (0..shape.node_words()).filter(|&place| place != NEXT) {
+        for place in (0..NODE_WORDS).filter(|&place| place != NEXT) {
             arena[shape.node_at(node) + place] = 2;
         }
     }

@@ -3,10 +3,9 @@
 use crate::arena::*;
 use crate::free_run::{longest_free_run, FreeRun};
 use crate::selftest::{fresh, Checks};
-use crate::selftest_refusals::{refused, SHAPES};
+use crate::selftest_refusals::{refused, OLD_HEADER, SHAPE};
 use crate::turn::{turn, Report};
 
-const SHAPE: Shape = SHAPES[1].0;
 const MARKS: [u16; 4] = [1, 2, 256, 65_535];
 
 pub fn free_runs(checks: &mut Checks) {
@@ -42,7 +41,7 @@ fn labelled(labels: &[Cells]) -> Vec<u16> {
     for (node, &(key, length)) in (2..nodes).rev().zip(labels) {
         let at = shape.node_at(node);
         arena[shape.node_at(last) + NEXT] = node;
-        arena[at..at + MAX_NODE_WORDS].copy_from_slice(&[key, TAIL, 0, 0, length]);
+        arena[at..at + NODE_WORDS].copy_from_slice(&[key, TAIL, 0, 0, length]);
         last = node;
     }
     arena
@@ -269,13 +268,7 @@ fn broken_chains(checks: &mut Checks) {
     }
 }
 
-const ORDER: [u16; 5] = [
-    SHORT_ARENA,
-    ODD_HEADER,
-    BAD_CALL,
-    BROKEN_CHAIN,
-    LENGTHS_MISSING,
-];
+const ORDER: [u16; 5] = [SHORT_ARENA, ODD_HEADER, OLD_LAYOUT, BAD_CALL, BROKEN_CHAIN];
 
 /// Every choice of faults: the first one in order refuses, and none accepts.
 fn order_of_refusals(checks: &mut Checks) {
@@ -284,13 +277,16 @@ fn order_of_refusals(checks: &mut Checks) {
             let place = ORDER.iter().position(|&other| other == number);
             place.is_some_and(|place| choice >> place & 1 == 1)
         };
-        let (shape, _) = SHAPES[usize::from(!is_due(LENGTHS_MISSING))];
-        let mut arena = fresh(shape);
+        let mut arena = fresh(SHAPE);
+        if is_due(OLD_LAYOUT) {
+            arena[..HEADER_WORDS].copy_from_slice(&OLD_HEADER);
+        }
         arena[7] = is_due(ODD_HEADER).into();
         if is_due(BROKEN_CHAIN) {
-            arena[shape.node_at(HEAD) + NEXT] = shape.nodes;
+            arena[SHAPE.node_at(HEAD) + NEXT] = SHAPE.nodes;
         }
-        arena.truncate(arena.len() - usize::from(is_due(SHORT_ARENA)));
+        // Word 5 has the total of either layout.
+        arena.truncate(usize::from(arena[5]) - usize::from(is_due(SHORT_ARENA)));
         let last_cells = if is_due(BAD_CALL) {
             [0, 65_535]
         } else {

@@ -1,12 +1,10 @@
-//! Lengths and the two layouts, worked out by hand from document 02, and that wrong lengths are
-//! told.
+//! Lengths, worked out by hand from document 02, and that wrong lengths are told.
 
 use crate::arena::*;
-use crate::count::check_counts;
 use crate::linearizable::explained;
-use crate::run::{run_traced, trace_entries, Call, Room, Trace, ENTRY_WORDS};
+use crate::run::{run_traced, Call, Room};
 use crate::selftest::{fresh, history, Checks};
-use crate::selftest_refusals::{at_stage, refused, SHAPES, STAGES};
+use crate::selftest_refusals::{at_stage, SHAPE, STAGES};
 use crate::sequential;
 use crate::turn::{turn, Report};
 
@@ -16,109 +14,51 @@ const ROOM: Room = Room {
 };
 
 pub fn lengths(checks: &mut Checks) {
-    fresh_words(checks);
-    mixed_headers(checks);
     starts(checks);
-    for (shape, _) in SHAPES {
-        taken_node(checks, shape);
-        eighth_word(checks, shape);
-    }
+    taken_node(checks);
+    eighth_word(checks);
     kept_length(checks);
     lengths_of_entries(checks);
-    layouts_alike(checks);
     wrong_lengths(checks);
 }
 
-/// Document 01's smallest arena in layout 2, with its lengths cleared and nothing else touched.
-fn fresh_words(checks: &mut Checks) {
-    let mut arena = vec![9; 33];
-    checks.check("layout 2, 31 words", init(&mut arena, 2, 1, 3).is_ok());
-    checks.check("its header", arena[..8] == [2, 1, 3, 8, 16, 31, 0, 0]);
-    checks.check("its worker", arena[8..16] == IDLE_WORKER);
-    let nodes = [0, 1, 0, 0, 0, 65_535, 1, 0, 0, 0, 0, 0, 0, 0, 0];
-    checks.check("its nodes", arena[16..31] == nodes);
-    checks.check("past its total", arena[31..] == [9, 9]);
-    refused(checks, "layout 2, 30 words", 1, vec![9; 30], |a| {
-        init(a, 2, 1, 3)
-    });
-    checks.check("the most words", MAX_WORDS == 5_192);
-    checks.check("they do", init(&mut [0; MAX_WORDS], 2, 8, 1_024).is_ok());
-    refused(checks, "one less", 1, vec![0; MAX_WORDS - 1], |a| {
-        init(a, 2, 8, 1_024)
-    });
-}
-
-/// A header is that of the layout it names; the other one's total, or a third layout, is odd.
-fn mixed_headers(checks: &mut Checks) {
-    for (shape, _) in SHAPES {
-        for (layout, total, is_good) in [
-            (1, 40, true),
-            (2, 44, true),
-            (1, 44, false),
-            (2, 40, false),
-            (0, 40, false),
-            (0, 44, false),
-            (3, 40, false),
-            (3, 44, false),
-            (3, 48, false),
-        ] {
-            let mut arena = fresh(shape);
-            arena.resize(60, 0);
-            (arena[0], arena[5]) = (layout, total);
-            if is_good {
-                let told = check_header(&arena);
-                checks.check("a layout's header", told == Ok(Shape { layout, ..shape }));
-            } else {
-                refused(checks, "mixed header", ODD_HEADER, arena, |a| turn(a, 0));
-            }
-        }
-    }
-}
-
-/// Layout, operation, key, length, and whether a start may carry it.
-const STARTS: [(u16, u16, u16, u16, bool); 26] = [
-    (2, ADD, 5, 0, false),
-    (2, ADD, 5, 1, true),
-    (2, ADD, 1, 65_534, true),
-    (2, ADD, 1, 65_535, false),
-    (2, ADD, 2, 65_533, true),
-    (2, ADD, 2, 65_534, false),
-    (2, ADD, 5, 65_530, true),
-    (2, ADD, 5, 65_531, false),
-    (2, ADD, 65_534, 1, true),
-    (2, ADD, 65_534, 2, false),
-    (2, ADD, 65_534, 65_535, false),
-    (2, ADD, 40_000, 25_535, true),
-    (2, ADD, 40_000, 40_000, false),
-    (2, ADD, 0, 1, false),
-    (2, ADD, 65_535, 0, false),
-    (2, REMOVE, 5, 0, true),
-    (2, REMOVE, 5, 1, false),
-    (2, CONTAINS, 5, 0, true),
-    (2, CONTAINS, 5, 65_535, false),
-    (2, 4, 5, 0, false),
-    (1, ADD, 5, 0, true),
-    (1, ADD, 5, 1, false),
-    (1, REMOVE, 5, 0, true),
-    (1, REMOVE, 5, 1, false),
-    (1, CONTAINS, 5, 0, true),
-    (1, CONTAINS, 5, 1, false),
+/// Operation, key, length, and whether a start may carry it.
+const STARTS: [(u16, u16, u16, bool); 20] = [
+    (ADD, 5, 0, false),
+    (ADD, 5, 1, true),
+    (ADD, 1, 65_534, true),
+    (ADD, 1, 65_535, false),
+    (ADD, 2, 65_533, true),
+    (ADD, 2, 65_534, false),
+    (ADD, 5, 65_530, true),
+    (ADD, 5, 65_531, false),
+    (ADD, 65_534, 1, true),
+    (ADD, 65_534, 2, false),
+    (ADD, 65_534, 65_535, false),
+    (ADD, 40_000, 25_535, true),
+    (ADD, 40_000, 40_000, false),
+    (ADD, 0, 1, false),
+    (ADD, 65_535, 0, false),
+    (REMOVE, 5, 0, true),
+    (REMOVE, 5, 1, false),
+    (CONTAINS, 5, 0, true),
+    (CONTAINS, 5, 65_535, false),
+    (4, 5, 0, false),
 ];
 
 /// A bad length is refused with 5, after all else; a good one stands in the record.
 fn starts(checks: &mut Checks) {
-    for (layout, operation, key, length, is_good) in STARTS {
-        let (shape, _) = SHAPES[usize::from(layout == LAYOUT_2)];
-        let mut arena = fresh(shape);
+    for (operation, key, length, is_good) in STARTS {
+        let mut arena = fresh(SHAPE);
         let mut expected = arena.clone();
         let first_stage = if operation == CONTAINS { 22 } else { 1 };
         let record = [first_stage, operation, key, NONE, NONE, NONE, 0, length];
         if is_good {
-            expected[shape.worker_at(1)..][..WORKER_WORDS].copy_from_slice(&record);
+            expected[SHAPE.worker_at(1)..][..WORKER_WORDS].copy_from_slice(&record);
         }
         let due = if is_good { Ok(()) } else { Err(BAD_CALL) };
         let started = start(&mut arena, 1, operation, key, length);
-        let name = format!("layout {layout} operation {operation} key {key} length {length}");
+        let name = format!("operation {operation} key {key} length {length}");
         checks.check(&name, started == due && arena == expected);
     }
 }
@@ -126,10 +66,11 @@ fn starts(checks: &mut Checks) {
 /// Words that a worker's eighth word may hold at 14; a start would take some of them from no add.
 const EIGHTH_WORDS: [u16; 5] = [0, 1, 7, 65_534, 65_535];
 
-/// Stage 14 writes the worker's eighth word as it stands, in layout 2 alone, and no other node.
-fn taken_node(checks: &mut Checks, shape: Shape) {
+/// Stage 14 writes the worker's eighth word as it stands, and no other node.
+fn taken_node(checks: &mut Checks) {
+    let shape = SHAPE;
     for length in EIGHTH_WORDS {
-        let mut arena = at_stage(shape, 14, ADD);
+        let mut arena = at_stage(14, ADD);
         arena[shape.node_at(0)..].fill(6);
         arena[shape.node_at(HEAD) + NEXT] = TAIL;
         arena[shape.node_at(TAIL) + NEXT] = TAIL;
@@ -137,25 +78,24 @@ fn taken_node(checks: &mut Checks, shape: Shape) {
         arena[shape.worker_at(0)..][..WORKER_WORDS].copy_from_slice(&worker);
         let mut expected = arena.clone();
         let record = [5, TAIL, 0, 0, length];
-        let in_layout = &record[..if shape.layout == LAYOUT_2 { 5 } else { 4 }];
-        expected[shape.node_at(2)..][..in_layout.len()].copy_from_slice(in_layout);
+        expected[shape.node_at(2)..][..5].copy_from_slice(&record);
         let worker = [15, ADD, 5, NONE, TAIL, 2, 0, length];
         expected[shape.worker_at(0)..][..WORKER_WORDS].copy_from_slice(&worker);
         let report = turn(&mut arena, 0);
-        let name = format!("layout {} takes length {length}", shape.layout);
+        let name = format!("stage 14 takes length {length}");
         checks.check(&name, report == Ok(Report::Moved(15)) && arena == expected);
     }
 }
 
 /// No turn changes the eighth word but the one that makes the record idle; none but stage 14 looks
 /// at it.
-fn eighth_word(checks: &mut Checks, shape: Shape) {
-    let eighth = shape.worker_at(0) + CALL_LENGTH;
+fn eighth_word(checks: &mut Checks) {
+    let eighth = SHAPE.worker_at(0) + CALL_LENGTH;
     for (stage, operations, _) in STAGES {
-        let mut plain = at_stage(shape, stage, operations[0]);
+        let mut plain = at_stage(stage, operations[0]);
         let plain_report = turn(&mut plain, 0);
         for length in EIGHTH_WORDS {
-            let mut arena = at_stage(shape, stage, operations[0]);
+            let mut arena = at_stage(stage, operations[0]);
             arena[eighth] = length;
             let report = turn(&mut arena, 0);
             let due = if stage == 21 { 0 } else { length };
@@ -175,7 +115,7 @@ fn whole_call(arena: &mut [u16], operation: u16, key: u16, length: u16) -> bool 
 
 /// A removed node keeps its length until it is taken again.
 fn kept_length(checks: &mut Checks) {
-    let shape = Shape::new(LAYOUT_2, 1, 3).expect("a good shape");
+    let shape = Shape::new(1, 3).expect("a good shape");
     let mut arena = fresh(shape);
     let at = shape.node_at(2);
     let mut after = |operation, key, length| {
@@ -214,53 +154,6 @@ fn lengths_of_entries(checks: &mut Checks) {
     checks.check("a run lays layout 2", arena[..6] == [2, 2, 4, 8, 24, 44]);
     let call = trace.calls.first().map(Call::label);
     checks.check("a call's length", call == Some(label));
-}
-
-/// The same entries on fresh arenas of both layouts, in layout 1 with lengths 0.
-fn in_both_layouts(schedule: &[u16]) -> [Trace; 2] {
-    SHAPES.map(|(shape, _)| {
-        let mut schedule = schedule.to_vec();
-        if shape.layout == LAYOUT_1 {
-            let entries = schedule.chunks_mut(ENTRY_WORDS);
-            entries.for_each(|entry| entry[3] = 0);
-        }
-        trace_entries(&mut fresh(shape), shape, &schedule)
-    })
-}
-
-/// But for the lengths, both layouts go the same way, and both are explained by their points.
-fn layouts_alike(checks: &mut Checks) {
-    let mut schedule = Vec::new();
-    for round in 0..60 {
-        let (worker, length) = (round % 2, 1 + round % 7);
-        let act = [ADD, ADD, REMOVE, ADD, CONTAINS][round as usize % 5];
-        let key = 1 + round % 3;
-        schedule.extend([worker, act, key, if act == ADD { length } else { 0 }]);
-        schedule.extend([worker, 0, 0, 9].repeat(3 + round as usize % 13));
-    }
-    let [first, second] = in_both_layouts(&schedule);
-    let calls = |trace: &Trace| -> Vec<Call> {
-        let without = |call: &Call| Call { length: 0, ..*call };
-        trace.calls.iter().map(without).collect()
-    };
-    checks.check("same calls", calls(&first) == calls(&second));
-    checks.check("same waits", first.waits == second.waits);
-    checks.check("same totals", first.totals == second.totals);
-    for trace in [&first, &second] {
-        let last_set = trace.sets.last().cloned().unwrap_or_default();
-        let is_first = trace.shape.layout == LAYOUT_1;
-        let has_lengths = last_set.iter().any(|label| label.length != 0);
-        checks.check("lengths in layout 2 alone", has_lengths != is_first);
-        let fed = sequential::check(&trace.calls, &last_set);
-        checks.check("fed by points", fed.is_ok());
-        let counted = check_counts(trace.shape.layout, &trace.sets, &trace.counts);
-        let is_refused = trace.refusals[BROKEN_COUNT as usize] != 0;
-        checks.check("counts at every time", counted.is_ok() && !is_refused);
-    }
-    let refused = trace_entries(&mut fresh(SHAPES[0].0), SHAPES[0].0, &schedule);
-    let has_add = refused.calls.iter().any(|call| call.operation == ADD);
-    let is_told = refused.refused_lengths > 20;
-    checks.check("in layout 1 no add has a length", !has_add && is_told);
 }
 
 /// 5 is stored with length 3, and later again with 8; 7 once, and an add of it says no.

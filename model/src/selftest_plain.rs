@@ -75,7 +75,7 @@ fn random_input(rng: &mut Rng) -> Input {
     if rng.chance(3) {
         schedule.resize(schedule.len() + 1 + rng.index(3), 0);
     }
-    let shape = Shape::new(LAYOUT_2, workers, nodes).expect("a good shape");
+    let shape = Shape::new(workers, nodes).expect("a good shape");
     Input {
         workers: mostly(rng, workers, &[0, 9, 65_535]),
         nodes: mostly(rng, nodes, &[0, 2, 1_025, 65_535]),

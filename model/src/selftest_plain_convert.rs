@@ -6,7 +6,7 @@ use crate::convert;
 use crate::plain_convert;
 use crate::rng::Rng;
 use crate::selftest::{fresh, Checks};
-use crate::selftest_convert::{in_layout_1, in_layout_2};
+use crate::selftest_convert::{in_layout_1, in_layout_2, keys, old_words};
 
 const INPUTS: u64 = 20_000;
 
@@ -44,10 +44,9 @@ pub fn plain_converters(checks: &mut Checks) {
     met.check(checks);
 }
 
-/// An arena of any layout: mostly at rest with a good chain, its other words any.
+/// An arena of either layout: mostly at rest with a good chain, its other words any.
 fn any_source(rng: &mut Rng) -> Vec<u16> {
     let shape = Shape {
-        layout: *rng.pick(&LAYOUTS),
         workers: rng.word(1, 4),
         nodes: *rng.pick(&[3, 4, 6, 9, 20]),
     };
@@ -60,6 +59,26 @@ fn any_source(rng: &mut Rng) -> Vec<u16> {
         let stage = if rng.chance(4) { rng.word(0, 27) } else { 0 };
         source[shape.worker_at(worker) + STAGE] = stage;
     }
+    let last = shape.node_at(link_chain(rng, &mut source, shape));
+    match rng.range(0, 29) {
+        0 => source[last + NEXT] = rng.word(0, shape.nodes + 1),
+        1..=2 => source[last + KEY] = TAIL_KEY,
+        _ => {}
+    }
+    if rng.chance(50) {
+        source = old_words(&source);
+    }
+    match rng.range(0, 29) {
+        0 => source[7] = 1,
+        1 => source.truncate(source.len() - 1),
+        2..=4 => source.push(7),
+        _ => {}
+    }
+    source
+}
+
+/// Labels over some nodes in any order, a few of them marked; gives the last node of the chain.
+fn link_chain(rng: &mut Rng, source: &mut [u16], shape: Shape) -> u16 {
     let mut order: Vec<u16> = (2..shape.nodes).collect();
     for place in (1..order.len()).rev() {
         order.swap(place, rng.index(place + 1));
@@ -70,34 +89,24 @@ fn any_source(rng: &mut Rng) -> Vec<u16> {
     source[shape.node_at(HEAD) + KEY] = key;
     for &node in &order {
         key += rng.word(1, step);
-        let mark = if rng.chance(15) {
-            rng.word(1, 65_535)
-        } else {
-            0
-        };
         let at = shape.node_at(node);
-        (source[at + KEY], source[at + MARK]) = (key, mark);
-        if shape.layout == LAYOUT_2 && mark == 0 {
+        source[at + KEY] = key;
+        if rng.chance(15) {
+            source[at + MARK] = rng.word(1, 65_535);
+        } else {
+            source[at + MARK] = 0;
             source[at + LENGTH] = if rng.chance(5) { rng.word(0, 3) } else { 1 };
         }
         source[shape.node_at(last) + NEXT] = node;
         last = node;
     }
     source[shape.node_at(last) + NEXT] = TAIL;
-    match rng.range(0, 49) {
-        0..=1 => source[shape.node_at(last) + NEXT] = rng.word(0, shape.nodes + 1),
-        2..=4 => source[shape.node_at(last) + KEY] = TAIL_KEY,
-        5 => source[7] = 1,
-        6 => source.truncate(source.len() - 1),
-        7..=9 => source.push(7),
-        _ => {}
-    }
-    source
+    last
 }
 
-/// Mostly good ones, at any edge of their range.
+/// For an arena of layout 1: mostly good ones, at any edge of their range.
 fn any_lengths(rng: &mut Rng, source: &[u16]) -> Vec<u16> {
-    let Ok(shape) = check_header(source) else {
+    let Some(shape) = OldShape::read(source) else {
         return vec![1; 9];
     };
     let bad = *rng.pick(&[0, 0, 10]);
@@ -121,7 +130,9 @@ fn any_lengths(rng: &mut Rng, source: &[u16]) -> Vec<u16> {
 
 /// Mostly as much as the converted arena takes, or more.
 fn any_room(rng: &mut Rng, source: &[u16]) -> usize {
-    let total = check_header(source).map_or(30, |shape| new_shape(shape).total());
+    let new = OldShape::read(source).map(|shape| shape.in_layout::<LAYOUT_2>().total());
+    let old = Shape::read(source).map(|shape| shape.in_layout::<LAYOUT_1>().total());
+    let total = new.or(old).unwrap_or(30);
     match rng.range(0, 19) {
         0 => total - 1,
         1 => rng.index(total),
@@ -130,88 +141,100 @@ fn any_room(rng: &mut Rng, source: &[u16]) -> usize {
     }
 }
 
-fn new_shape(shape: Shape) -> Shape {
-    let layout = LAYOUT_1 + LAYOUT_2 - shape.layout;
-    Shape { layout, ..shape }
-}
-
 /// Whether each word of the target is what document 02 has there.
 fn is_converted(source: &[u16], lengths: &[u16], before: &[u16], target: &[u16]) -> bool {
-    let (Ok(old), Ok(new)) = (check_header(source), check_header(target)) else {
-        return false;
-    };
-    let keys = |arena| set(arena).into_iter().map(|label| label.key);
+    match (OldShape::read(source), Shape::read(source)) {
+        (Some(old), _) => {
+            is_copied(source, old, before, target, old.in_layout::<LAYOUT_2>())
+                && has_lengths(source, old, lengths, target)
+                && goes_back(source, old, lengths, target)
+        }
+        (_, Some(new)) => {
+            is_copied(source, new, before, target, new.in_layout::<LAYOUT_1>())
+                && target[COUNT] == 0
+                && set(source).iter().all(|label| label.length == 1)
+                && goes_on(source, new, target)
+        }
+        _ => false,
+    }
+}
+
+/// Whether the target has all words that both layouts have, the same set, and its words past the total.
+fn is_copied<const FROM: u16, const TO: u16>(
+    source: &[u16],
+    old: ShapeIn<FROM>,
+    before: &[u16],
+    target: &[u16],
+    new: ShapeIn<TO>,
+) -> bool {
     let is_kept = |node: u16| {
         let (from, to) = (old.node_at(node), new.node_at(node));
         source[from..from + 4] == target[to..to + 4]
     };
     let records_at = HEADER_WORDS..old.node_at(0);
-    new == new_shape(old)
+    ShapeIn::read(target) == Some(new)
         && target.len() == before.len()
         && target[new.total()..] == before[new.total()..]
         && target[records_at.clone()] == source[records_at]
         && (0..old.nodes).all(is_kept)
-        && keys(source).eq(keys(target))
-        && if new.layout == LAYOUT_2 {
-            has_lengths(source, lengths, target, new)
-        } else {
-            target[COUNT] == 0 && set(source).iter().all(|label| label.length == 1)
-        }
-        && goes_back(source, old, lengths, &target[..new.total()])
+        && keys(source) == keys(target)
 }
 
 /// The count is the set's size, and each of its nodes has its length, which is a good one; of others it
 /// is 0. Where keys rise, none of the set's is a second time on the chain.
-fn has_lengths(source: &[u16], lengths: &[u16], target: &[u16], new: Shape) -> bool {
+fn has_lengths(source: &[u16], old: OldShape, lengths: &[u16], target: &[u16]) -> bool {
     let set = set(target);
-    let fifth = |node: u16| target[new.node_at(node) + LENGTH];
-    let chain = chain_of(source);
+    let new: Shape = old.in_layout();
+    let chain = chain_of(source, old);
     let is_right = |node: u16| {
-        let is_stored = chain.contains(&node) && target[new.node_at(node) + MARK] == 0;
+        let record = &target[new.node_at(node)..];
+        let is_stored = chain.contains(&node) && record[MARK] == 0;
         let due = if is_stored {
             lengths[usize::from(node)]
         } else {
             0
         };
-        fifth(node) == due
+        record[LENGTH] == due
     };
-    let is_good = |label: &Label| is_call_length(LAYOUT_2, ADD, label.key, label.length);
+    let is_good = |label: &Label| is_call_length(ADD, label.key, label.length);
     usize::from(target[COUNT]) == set.len()
         && set.iter().all(is_good)
         && (0..new.nodes).all(is_right)
 }
 
 /// The nodes between Head and Tail.
-fn chain_of(source: &[u16]) -> Vec<u16> {
+fn chain_of<const LAYOUT: u16>(source: &[u16], shape: ShapeIn<LAYOUT>) -> Vec<u16> {
+    let next = |node: u16| source[shape.node_at(node) + NEXT];
     let mut chain = Vec::new();
-    let mut node = source[check_header(source).map_or(0, |shape| shape.node_at(HEAD)) + NEXT];
-    while let (Ok(shape), true) = (check_header(source), node != TAIL && chain.len() < 1_024) {
+    let mut node = next(HEAD);
+    while node != TAIL && chain.len() < 1_024 {
         chain.push(node);
-        node = source[shape.node_at(node) + NEXT];
+        node = next(node);
     }
     chain
 }
 
 /// With every length 1, to layout 2 and back gives the source's words; another way back gives none.
-fn goes_back(source: &[u16], old: Shape, lengths: &[u16], target: &[u16]) -> bool {
-    if old.layout == LAYOUT_1 {
-        let has_ones = set(target).iter().all(|label| label.length == 1);
-        let due = if has_ones {
-            Ok(source[..old.total()].to_vec())
-        } else {
-            Err(BAD_CALL)
-        };
-        let ones = vec![1; lengths.len()];
-        let with_ones = in_layout_2(source, &ones, target.len()).and_then(Result::ok);
-        let back = with_ones.and_then(|new| in_layout_1(&new, old.total()));
-        in_layout_1(target, old.total()) == Some(due)
-            && back == Some(Ok(source[..old.total()].to_vec()))
+fn goes_back(source: &[u16], old: OldShape, lengths: &[u16], target: &[u16]) -> bool {
+    let words = &source[..old.total()];
+    let target = &target[..usize::from(target[5])];
+    let has_ones = set(target).iter().all(|label| label.length == 1);
+    let due = if has_ones {
+        Ok(words.to_vec())
     } else {
-        // Count and other nodes' lengths are put in order.
-        let ones = vec![1; usize::from(old.nodes)];
-        let again = in_layout_2(target, &ones, old.total()).and_then(Result::ok);
-        again.is_some_and(|new| set(&new) == set(source))
-    }
+        Err(BAD_CALL)
+    };
+    let ones = vec![1; lengths.len()];
+    let with_ones = in_layout_2(source, &ones, target.len()).and_then(Result::ok);
+    let back = with_ones.and_then(|new| in_layout_1(&new, old.total()));
+    in_layout_1(target, old.total()) == Some(due) && back == Some(Ok(words.to_vec()))
+}
+
+/// Back in layout 2, count and other nodes' lengths are put in order.
+fn goes_on(source: &[u16], new: Shape, target: &[u16]) -> bool {
+    let ones = vec![1; usize::from(new.nodes)];
+    let again = in_layout_2(target, &ones, new.total()).and_then(Result::ok);
+    again.is_some_and(|again| set(&again) == set(source))
 }
 
 /// What the inputs are meant to meet.
@@ -231,7 +254,9 @@ impl Met {
             self.refusals[way][usize::from(number)] += 1;
             return;
         }
-        let has_marked = set(source).len() < chain_of(source).len();
+        let old_chain = OldShape::read(source).map(|shape| chain_of(source, shape));
+        let chain = old_chain.or(Shape::read(source).map(|shape| chain_of(source, shape)));
+        let has_marked = chain.is_some_and(|chain| keys(source).len() < chain.len());
         self.accepted[way] += 1;
         self.marked[way] += u32::from(has_marked);
         self.odd_records[way] += u32::from(source[HEADER_WORDS + OPERATION] > CONTAINS);

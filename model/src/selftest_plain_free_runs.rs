@@ -62,7 +62,6 @@ fn is_longest(set: &[Label], last_cell: u16, run: FreeRun) -> bool {
 /// lie apart, overlap and lie in one another; 0, and lengths that run past 65,535.
 fn any_arena(rng: &mut Rng) -> Vec<u16> {
     let shape = Shape {
-        layout: if rng.chance(95) { LAYOUT_2 } else { LAYOUT_1 },
         workers: 1,
         nodes: *rng.pick(&[3, 4, 6, 9, 20]),
     };
@@ -84,8 +83,7 @@ fn any_arena(rng: &mut Rng) -> Vec<u16> {
         let mark = u16::from(rng.chance(10));
         let record = [key, TAIL, mark, 0, length];
         arena[shape.node_at(last) + NEXT] = node;
-        arena[shape.node_at(node)..][..shape.node_words()]
-            .copy_from_slice(&record[..shape.node_words()]);
+        arena[shape.node_at(node)..][..NODE_WORDS].copy_from_slice(&record);
         last = node;
     }
     if rng.chance(5) {
@@ -93,7 +91,11 @@ fn any_arena(rng: &mut Rng) -> Vec<u16> {
         let place = *rng.pick(&[KEY, NEXT]);
         arena[shape.node_at(node) + place] = *rng.pick(&[0, 2, shape.nodes, NONE]);
     }
-    arena.truncate(arena.len() - usize::from(rng.chance(2)));
+    if rng.chance(3) {
+        let old: OldShape = shape.in_layout();
+        arena[..HEADER_WORDS].copy_from_slice(&old.header(0));
+    }
+    arena.truncate(usize::from(arena[5]) - usize::from(rng.chance(2)));
     arena[7] = u16::from(rng.chance(2));
     arena
 }
@@ -116,7 +118,7 @@ fn any_last_cell(rng: &mut Rng, arena: &[u16]) -> u16 {
 /// What the inputs are meant to meet.
 #[derive(Default)]
 struct Met {
-    refusals: [u32; 14],
+    refusals: [u32; 13],
     none: u32,
     all: u32,
     /// The answer begins with cell 1, or ends with the last one, and not both.
@@ -153,7 +155,7 @@ impl Met {
     }
 
     fn check(&self, checks: &mut Checks) {
-        for refusal in [1, 2, BAD_CALL, BROKEN_CHAIN, LENGTHS_MISSING] {
+        for refusal in [1, 2, OLD_LAYOUT, BAD_CALL, BROKEN_CHAIN] {
             let count = self.refusals[refusal as usize];
             checks.check(&format!("free runs refused {refusal}: {count}"), count > 50);
         }
@@ -177,7 +179,6 @@ impl Met {
 /// Two workers' calls in short bursts: both ways are right at every time.
 fn at_every_time(checks: &mut Checks) {
     let mut arena = fresh(Shape {
-        layout: LAYOUT_2,
         workers: 2,
         nodes: 6,
     });

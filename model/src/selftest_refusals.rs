@@ -5,27 +5,24 @@ use crate::run::{run_traced, Room, Trace};
 use crate::selftest::{fresh, good_start, Checks};
 use crate::turn::turn;
 
-/// The arenas here, with their words: 8 + 16 and four or five to a node.
-pub const SHAPES: [(Shape, usize); 2] = [(shape(LAYOUT_1), 40), (shape(LAYOUT_2), 44)];
-
-const fn shape(layout: u16) -> Shape {
-    Shape {
-        layout,
-        workers: 2,
-        nodes: 4,
-    }
-}
+/// The arenas here, with their words: 8 + 16 and five to a node.
+pub const SHAPE: Shape = Shape {
+    workers: 2,
+    nodes: 4,
+};
+pub const WORDS: usize = 44;
+/// The good header of layout 1 with these counts.
+pub const OLD_HEADER: [u16; HEADER_WORDS] = [1, 2, 4, 8, 24, 40, 0, 0];
 
 pub fn refusals(checks: &mut Checks) {
+    order_of_init(checks);
     order_of_run(checks);
-    for (shape, words) in SHAPES {
-        order_of_init(checks, shape, words);
-        order_of_start_and_turn(checks, shape, words);
-        order_of_snapshot(checks, shape);
-        headers(checks, shape);
-        records(checks, shape);
-        links(checks, shape);
-    }
+    order_of_start(checks);
+    order_of_turn(checks);
+    order_of_snapshot(checks);
+    headers(checks);
+    records(checks);
+    links(checks);
 }
 
 /// Makes a call that must be refused with this number and must write nothing.
@@ -57,21 +54,17 @@ fn run(
 }
 
 /// In each row one more fault is repaired.
-fn order_of_init(checks: &mut Checks, shape: Shape, words: usize) {
-    let (short, layout) = (vec![7; words - 1], shape.layout);
-    for (number, layout, workers, nodes) in [
-        (10, 0, 2, 4),
-        (10, 3, 2, 4),
-        (10, 65_535, 2, 4),
-        (10, layout, 0, 4),
-        (10, layout, 2, 1_025),
-        (1, layout, 2, 4),
+fn order_of_init(checks: &mut Checks) {
+    for (number, words, workers, nodes) in [
+        (10, WORDS - 1, 0, 4),
+        (10, WORDS - 1, 2, 1_025),
+        (1, WORDS - 1, 2, 4),
     ] {
-        refused(checks, "init", number, short.clone(), |a| {
-            init(a, layout, workers, nodes)
+        refused(checks, "init", number, vec![7; words], |a| {
+            init(a, workers, nodes)
         });
     }
-    let done = init(&mut vec![7; words], layout, 2, 4);
+    let done = init(&mut [7; WORDS], 2, 4);
     checks.check("init accepted", done.is_ok());
 }
 
@@ -110,61 +103,83 @@ fn order_of_run(checks: &mut Checks) {
     );
 }
 
-fn order_of_start_and_turn(checks: &mut Checks, shape: Shape, words: usize) {
-    let (good, other) = (shape.layout, 3 - shape.layout);
-    // Number due, words, layout, worker, stage: a fault less in each row.
-    let start_rows = [
-        (1, words - 1, other, 2, 26),
-        (2, words, other, 2, 26),
-        (3, words, good, 2, 26),
-        (6, words, good, 1, 26),
-        (4, words, good, 1, 25),
-        (5, words, good, 1, 0),
-    ];
-    let turn_rows = [
-        (1, words - 1, other, 2, 26),
-        (2, words, other, 2, 26),
-        (3, words, good, 2, 26),
-        (6, words, good, 1, 26),
-        (7, words, good, 1, 2),
-    ];
-    let spoiled = |words: usize, layout: u16, stage: u16| {
-        let mut arena = fresh(shape);
-        let at = shape.worker_at(1);
-        arena[at..at + 4].copy_from_slice(&[stage, ADD, 5, HEAD]);
-        arena[shape.node_at(HEAD) + NEXT] = shape.nodes;
-        arena[0] = layout;
-        arena.truncate(words);
-        arena
-    };
-    for (number, words, layout, worker, stage) in start_rows {
-        let arena = spoiled(words, layout, stage);
+/// An arena with the faults of a row: so many words, the header's first word, its worker 1 at a stage,
+/// and a link to no node. A first word of 1 makes the header odd, one of 0 stands for a good old one.
+fn spoiled(words: usize, first: u16, stage: u16) -> Vec<u16> {
+    let mut arena = fresh(SHAPE);
+    let at = SHAPE.worker_at(1);
+    arena[at..at + 4].copy_from_slice(&[stage, ADD, 5, HEAD]);
+    arena[SHAPE.node_at(HEAD) + NEXT] = SHAPE.nodes;
+    match first {
+        0 => arena[..HEADER_WORDS].copy_from_slice(&OLD_HEADER),
+        _ => arena[0] = first,
+    }
+    arena.truncate(words);
+    arena
+}
+
+/// Number due, words, first word, worker, stage: a fault less in each row.
+fn order_of_start(checks: &mut Checks) {
+    for (number, words, first, worker, stage) in [
+        (1, WORDS - 1, 1, 2, 26),
+        (1, 39, 0, 2, 26),
+        (2, WORDS, 1, 2, 26),
+        (12, WORDS, 0, 2, 26),
+        (12, WORDS, 0, 1, 26),
+        (12, WORDS, 0, 1, 25),
+        (12, WORDS, 0, 1, 0),
+        (3, WORDS, 2, 2, 26),
+        (6, WORDS, 2, 1, 26),
+        (4, WORDS, 2, 1, 25),
+        (5, WORDS, 2, 1, 0),
+    ] {
+        let arena = spoiled(words, first, stage);
         for (act, key, length) in [(4, 5, 0), (ADD, 0, 1), (ADD, 5, 65_535), (REMOVE, 5, 1)] {
             let call = |a: &mut [u16]| start(a, worker, act, key, length);
             refused(checks, "start", number, arena.clone(), call);
         }
     }
-    for (number, words, layout, worker, stage) in turn_rows {
-        let arena = spoiled(words, layout, stage);
+}
+
+/// As the last one.
+fn order_of_turn(checks: &mut Checks) {
+    for (number, words, first, worker, stage) in [
+        (1, WORDS - 1, 1, 2, 26),
+        (1, 39, 0, 2, 26),
+        (2, WORDS, 1, 2, 26),
+        (12, WORDS, 0, 2, 26),
+        (12, WORDS, 0, 1, 26),
+        (12, WORDS, 0, 1, 2),
+        (12, WORDS, 0, 1, 0),
+        (3, WORDS, 2, 2, 26),
+        (6, WORDS, 2, 1, 26),
+        (7, WORDS, 2, 1, 2),
+    ] {
+        let arena = spoiled(words, first, stage);
         refused(checks, "turn", number, arena, |a| turn(a, worker));
     }
 }
 
-fn order_of_snapshot(checks: &mut Checks, shape: Shape) {
-    let chain = |links: [u16; 4], keys: [u16; 4]| {
-        let mut arena = fresh(shape);
-        for node in 0..4 {
-            arena[shape.node_at(node) + NEXT] = links[node as usize];
-            arena[shape.node_at(node) + KEY] = keys[node as usize];
-        }
-        arena
-    };
+/// An arena whose nodes have these links and keys.
+fn chain(links: [u16; 4], keys: [u16; 4]) -> Vec<u16> {
+    let mut arena = fresh(SHAPE);
+    for (node, (link, key)) in (0..).zip(links.into_iter().zip(keys)) {
+        let at = SHAPE.node_at(node);
+        (arena[at + NEXT], arena[at + KEY]) = (link, key);
+    }
+    arena
+}
+
+fn order_of_snapshot(checks: &mut Checks) {
     let broken = chain([2, 1, 3, 4], [0, 65_535, 5, 7]);
     let mut odd = broken.clone();
     odd[7] = 1;
     let short = odd[..odd.len() - 1].to_vec();
     refused(checks, "snapshot", 1, short, |a| snapshot(a, &mut []));
     refused(checks, "snapshot", 2, odd, |a| snapshot(a, &mut []));
+    let mut old = broken.clone();
+    old[..HEADER_WORDS].copy_from_slice(&OLD_HEADER);
+    refused(checks, "snapshot", 12, old, |a| snapshot(a, &mut []));
     refused(checks, "snapshot", 7, broken, |a| snapshot(a, &mut []));
     let equal_keys = chain([2, 1, 3, 1], [0, 65_535, 5, 5]);
     refused(checks, "snapshot", 7, equal_keys, |a| snapshot(a, &mut []));
@@ -188,7 +203,8 @@ fn order_of_snapshot(checks: &mut Checks, shape: Shape) {
     checks.check("set", keys == [5, 7]);
 }
 
-fn headers(checks: &mut Checks, shape: Shape) {
+fn headers(checks: &mut Checks) {
+    let shape = SHAPE;
     refused(checks, "turn", 1, vec![1; 7], |a| turn(a, 0));
     for word in 0..HEADER_WORDS {
         let mut arena = fresh(shape);
@@ -233,21 +249,20 @@ pub const STAGES: [(u16, &[u16], &[usize]); 25] = [
     (25, &[CONTAINS], &[CURR]),
 ];
 
-/// An arena whose worker 0 stands at a stage, on good nodes. Where there is a count, it can go up and
-/// down.
-pub fn at_stage(shape: Shape, stage: u16, operation: u16) -> Vec<u16> {
-    let mut arena = fresh(shape);
-    arena[COUNT] = shape.max_count() / 2;
-    let at = shape.worker_at(0);
+/// An arena whose worker 0 stands at a stage, on good nodes. Its count can go up and down.
+pub fn at_stage(stage: u16, operation: u16) -> Vec<u16> {
+    let mut arena = fresh(SHAPE);
+    arena[COUNT] = 1;
+    let at = SHAPE.worker_at(0);
     arena[at..at + WORKER_WORDS].copy_from_slice(&[stage, operation, 5, 0, 2, 3, 1, 0]);
     arena
 }
 
 /// Each reason for refusal 6, at each stage.
-fn records(checks: &mut Checks, shape: Shape) {
+fn records(checks: &mut Checks) {
     let mut one_word = |stage: u16, operation: u16, word: usize, value: u16, bad: bool| {
-        let mut arena = at_stage(shape, stage, operation);
-        arena[shape.worker_at(0) + word] = value;
+        let mut arena = at_stage(stage, operation);
+        arena[SHAPE.worker_at(0) + word] = value;
         let report = turn(&mut arena, 0);
         let name = format!("stage {stage} word {word} is {value}: {report:?}");
         checks.check(&name, (report == Err(6)) == bad);
@@ -264,10 +279,10 @@ fn records(checks: &mut Checks, shape: Shape) {
             );
         }
         for word in [PRED, CURR, SPARE] {
-            for node in [shape.nodes, NONE] {
+            for node in [SHAPE.nodes, NONE] {
                 one_word(stage, operation, word, node, reads.contains(&word));
             }
-            one_word(stage, operation, word, shape.nodes - 1, false);
+            one_word(stage, operation, word, SHAPE.nodes - 1, false);
         }
         for answer in [0, 4] {
             one_word(stage, operation, ANSWER, answer, (19..=21).contains(&stage));
@@ -281,11 +296,11 @@ fn records(checks: &mut Checks, shape: Shape) {
 }
 
 /// Refusal 7 is for the links read at 2, 5, 17 and 24 alone.
-fn links(checks: &mut Checks, shape: Shape) {
+fn links(checks: &mut Checks) {
     for (stage, operations, _) in STAGES {
-        let mut arena = at_stage(shape, stage, operations[0]);
-        for node in 0..shape.nodes {
-            arena[shape.node_at(node) + NEXT] = shape.nodes;
+        let mut arena = at_stage(stage, operations[0]);
+        for node in 0..SHAPE.nodes {
+            arena[SHAPE.node_at(node) + NEXT] = SHAPE.nodes;
         }
         let broken = turn(&mut arena, 0) == Err(7);
         let name = format!("stage {stage} and a broken link");

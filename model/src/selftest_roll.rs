@@ -10,21 +10,22 @@ use crate::turn::{turn, Answer, Report};
 
 /// What lent words hold before.
 const UNTOUCHED: u16 = 9_999;
+const SHAPE: Shape = Shape {
+    workers: 2,
+    nodes: 6,
+};
 /// The mark that a turn writes, and others that only other arenas have.
 const MARKS: [u16; 5] = [1, 2, 3, 256, 65_535];
 
 pub fn rolls(checks: &mut Checks) {
-    for layout in LAYOUTS {
-        let shape = Shape::new(layout, 2, 6).expect("a good shape");
-        half_removed(checks, shape);
-        for mark in MARKS {
-            passed_over(checks, shape, mark);
-            broken(checks, shape, mark);
-            room(checks, shape, mark);
-        }
-        ends_of_chain(checks, shape);
-        at_every_time(checks, shape);
+    half_removed(checks);
+    for mark in MARKS {
+        passed_over(checks, mark);
+        broken(checks, mark);
+        room(checks, mark);
     }
+    ends_of_chain(checks);
+    at_every_time(checks);
     wrong_rolls(checks);
 }
 
@@ -64,8 +65,8 @@ fn whole_call(arena: &mut [u16], worker: u16, operation: u16, key: u16) -> Optio
 
 /// A remove of the middle one of three keys, turn by turn: it is listed up to the turn at 16, which
 /// marks it, and never from then on, though only the turn at 18 takes it off the chain.
-fn half_removed(checks: &mut Checks, shape: Shape) {
-    let mut arena = fresh(shape);
+fn half_removed(checks: &mut Checks) {
+    let mut arena = fresh(SHAPE);
     for key in [3, 5, 7] {
         let added = whole_call(&mut arena, 0, ADD, key);
         checks.check("three keys", added == Some(Answer::Yes));
@@ -74,7 +75,7 @@ fn half_removed(checks: &mut Checks, shape: Shape) {
     checks.check("remove starts", started.is_ok());
     // Past one key it takes 18 turns.
     for _ in 0..=18 {
-        let stage = arena[shape.worker_at(0) + STAGE];
+        let stage = arena[SHAPE.worker_at(0) + STAGE];
         let is_marked = (17..=21).contains(&stage) || stage == 0;
         let keys: &[u16] = if is_marked { &[3, 7] } else { &[3, 5, 7] };
         let name = format!("remove at {stage}");
@@ -93,12 +94,12 @@ fn half_removed(checks: &mut Checks, shape: Shape) {
 type Node = (u16, u16);
 
 /// Nodes 2 and up on the chain, in this order.
-fn chain(shape: Shape, nodes: &[Node]) -> Vec<u16> {
-    let mut arena = fresh(shape);
+fn chain(nodes: &[Node]) -> Vec<u16> {
+    let mut arena = fresh(SHAPE);
     let mut last = HEAD;
     for (node, &(key, mark)) in (2..).zip(nodes) {
-        let at = shape.node_at(node);
-        arena[shape.node_at(last) + NEXT] = node;
+        let at = SHAPE.node_at(node);
+        arena[SHAPE.node_at(last) + NEXT] = node;
         (arena[at + KEY], arena[at + NEXT], arena[at + MARK]) = (key, TAIL, mark);
         last = node;
     }
@@ -106,7 +107,7 @@ fn chain(shape: Shape, nodes: &[Node]) -> Vec<u16> {
 }
 
 /// Whatever the mark word is, if not 0.
-fn passed_over(checks: &mut Checks, shape: Shape, mark: u16) {
+fn passed_over(checks: &mut Checks, mark: u16) {
     let rows: [(&[Node], &[u16]); 7] = [
         (&[(5, mark)], &[]),
         (&[(5, mark), (6, 0), (7, 0)], &[6, 7]),
@@ -117,7 +118,7 @@ fn passed_over(checks: &mut Checks, shape: Shape, mark: u16) {
         (&[(1, 0), (65_534, mark), (65_535, 0)], &[1, 65_535]),
     ];
     for (nodes, keys) in rows {
-        let arena = chain(shape, nodes);
+        let arena = chain(nodes);
         listed(checks, "passed over", &arena, 9, keys);
         checks.check("the set", keys_of(&set(&arena)) == keys);
     }
@@ -125,7 +126,7 @@ fn passed_over(checks: &mut Checks, shape: Shape, mark: u16) {
 
 /// A marked node's link and key, and the key behind it, must be as good as the others'; 7 comes
 /// before 8.
-fn broken(checks: &mut Checks, shape: Shape, mark: u16) {
+fn broken(checks: &mut Checks, mark: u16) {
     let rows: [(&str, &[Node]); 9] = [
         ("Head's key, marked", &[(0, mark)]),
         ("same key, marked", &[(5, 0), (5, mark)]),
@@ -138,14 +139,14 @@ fn broken(checks: &mut Checks, shape: Shape, mark: u16) {
         ("behind the farther", &[(9, mark), (7, mark), (8, 0)]),
     ];
     for (name, nodes) in rows {
-        let arena = chain(shape, nodes);
+        let arena = chain(nodes);
         for room in [0, 9] {
             refused(checks, name, &arena, room, BROKEN_CHAIN);
         }
     }
-    for link in [shape.nodes, shape.nodes + 1, NONE, HEAD, 2, 3] {
-        let mut arena = chain(shape, &[(5, 0), (6, mark)]);
-        arena[shape.node_at(3) + NEXT] = link;
+    for link in [SHAPE.nodes, SHAPE.nodes + 1, NONE, HEAD, 2, 3] {
+        let mut arena = chain(&[(5, 0), (6, mark)]);
+        arena[SHAPE.node_at(3) + NEXT] = link;
         let name = format!("a marked node's link {link}");
         for room in [0, 9] {
             refused(checks, &name, &arena, room, BROKEN_CHAIN);
@@ -154,34 +155,34 @@ fn broken(checks: &mut Checks, shape: Shape, mark: u16) {
 }
 
 /// Room is wanted for the listed keys alone.
-fn room(checks: &mut Checks, shape: Shape, mark: u16) {
-    let arena = chain(shape, &[(5, 0), (6, mark), (7, 0), (8, mark)]);
+fn room(checks: &mut Checks, mark: u16) {
+    let arena = chain(&[(5, 0), (6, mark), (7, 0), (8, mark)]);
     for room in [2, 3, 4, 5] {
         listed(checks, "room", &arena, room, &[5, 7]);
     }
     for room in [0, 1] {
         refused(checks, "room", &arena, room, NO_ROOM);
     }
-    let none = chain(shape, &[(5, mark), (6, mark)]);
+    let none = chain(&[(5, mark), (6, mark)]);
     listed(checks, "no room needed", &none, 0, &[]);
 }
 
 /// Marks of Head and Tail don't count.
-fn ends_of_chain(checks: &mut Checks, shape: Shape) {
-    let mut arena = chain(shape, &[(5, 0), (6, 1), (7, 0)]);
+fn ends_of_chain(checks: &mut Checks) {
+    let mut arena = chain(&[(5, 0), (6, 1), (7, 0)]);
     for end in [HEAD, TAIL] {
-        arena[shape.node_at(end) + MARK] = 1;
+        arena[SHAPE.node_at(end) + MARK] = 1;
         listed(checks, "marked ends", &arena, 2, &[5, 7]);
     }
-    let mut empty = fresh(shape);
-    empty[shape.node_at(HEAD) + MARK] = 1;
+    let mut empty = fresh(SHAPE);
+    empty[SHAPE.node_at(HEAD) + MARK] = 1;
     listed(checks, "marked Head alone", &empty, 0, &[]);
 }
 
 /// Two workers' calls in short bursts, so that one often stops between marking and unlinking: at
 /// every time the roll is the set.
-fn at_every_time(checks: &mut Checks, shape: Shape) {
-    let mut arena = fresh(shape);
+fn at_every_time(checks: &mut Checks) {
+    let mut arena = fresh(SHAPE);
     let mut rng = Rng::new(3, 3);
     let (mut is_set, mut half_removed) = (true, 0);
     for _ in 0..2_000 {
@@ -191,7 +192,7 @@ fn at_every_time(checks: &mut Checks, shape: Shape) {
         for _ in 0..rng.range(1, 5) {
             is_set &= turn(&mut arena, worker).is_ok();
             is_set &= roll(&arena, 9) == Some(Ok(keys_of(&set(&arena))));
-            let stages = [0, 1].map(|worker| arena[shape.worker_at(worker) + STAGE]);
+            let stages = [0, 1].map(|worker| arena[SHAPE.worker_at(worker) + STAGE]);
             half_removed += u32::from(stages.contains(&17) || stages.contains(&18));
         }
     }

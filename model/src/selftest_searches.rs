@@ -9,10 +9,7 @@ use crate::selftest::{fresh, good_start, Checks};
 use crate::turn::{turn, Report};
 
 pub fn searches(checks: &mut Checks) {
-    for layout in LAYOUTS {
-        let shape = Shape::new(layout, 2, 6).expect("a good shape");
-        at_every_time(checks, shape);
-    }
+    at_every_time(checks);
     any_words(checks);
 }
 
@@ -49,7 +46,8 @@ fn due(arena: &[u16], shape: Shape) -> Found {
 
 /// Two workers' calls in short bursts: the search is right at every time, and stage 14 takes what
 /// it finds.
-fn at_every_time(checks: &mut Checks, shape: Shape) {
+fn at_every_time(checks: &mut Checks) {
+    let shape = Shape::new(2, 6).expect("a good shape");
     let mut arena = fresh(shape);
     let mut rng = Rng::new(4, 4);
     let (mut is_right, mut is_taken) = (true, true);
@@ -137,7 +135,6 @@ fn any_words(checks: &mut Checks) {
     let mut met = [0; 3];
     for _ in 0..6_000 {
         let shape = Shape {
-            layout: *rng.pick(&LAYOUTS),
             workers: *rng.pick(&[1, 2, 8]),
             nodes: *rng.pick(&[3, 5, 9, 20]),
         };

@@ -5,7 +5,7 @@ use crate::arena::*;
 use crate::bench::{bench, evaluate, Outcome};
 use crate::run::{run_traced, Room, Trace};
 use crate::selftest::{fresh, Checks};
-use crate::selftest_refusals::SHAPES;
+use crate::selftest_refusals::{SHAPE, WORDS};
 use crate::turn::{turn, Report};
 use crate::waits::check_waits;
 
@@ -80,9 +80,7 @@ pub fn waits(checks: &mut Checks) {
     }
     let row: Vec<_> = by_turns().waits.iter().map(|wait| wait.words()).collect();
     checks.check("waits by time", row == BY_TURNS_ROW);
-    for (shape, _) in SHAPES {
-        any_owner(checks, shape);
-    }
+    any_owner(checks);
     room_for_waits(checks);
     wrong_waits(checks);
 }
@@ -96,7 +94,8 @@ fn by_turns() -> Trace {
 
 /// On an arena of any words the worker is the owner word less 1: it may be one that is not there,
 /// or the waiting worker itself. The other node's owner is not looked at, and nothing changes.
-fn any_owner(checks: &mut Checks, shape: Shape) {
+fn any_owner(checks: &mut Checks) {
+    let shape = SHAPE;
     let stages = [(6, PRED, CURR), (7, CURR, PRED)];
     let owners = [(1, 0), (2, 1), (3, 2), (9, 8), (65_535, 65_534)];
     for (stage, wanted, other) in stages {
@@ -127,8 +126,7 @@ const ROOM_SCHEDULE: [u16; 28] = [
 
 /// Refusal 8 by either row, at the limit and one below, and after 10, 9 and 1.
 fn room_for_waits(checks: &mut Checks) {
-    // A run lays layout 2.
-    let (shape, total) = SHAPES[1];
+    let (shape, total) = (SHAPE, WORDS);
     let mut row = |due: Result<(), u16>, workers, schedule: &[u16], words, calls, waits| {
         let mut arena = vec![7; words];
         let room = Room { calls, waits };

@@ -106,7 +106,7 @@ enum Next {
     Wait { node: u16, worker: u16 },
 }
 
-/// Gives a worker one turn. Refusals 1, 2, 3, 6, 7, 14.
+/// Gives a worker one turn. Refusals 1, 2, 12, 3, 6, 7, 14.
 pub fn turn(arena: &mut [u16], worker: u16) -> Result<Report, u16> {
     let shape = check_header(arena)?;
     if worker >= shape.workers {
@@ -268,8 +268,7 @@ fn take_node(me: &mut Record, arena: &mut [u16], shape: Shape) -> u16 {
         return decide(me, Answer::Full, 19);
     };
     let record = [me.key, me.curr, 0, 0, me.length];
-    let words = &mut arena[shape.node_at(node)..][..shape.node_words()];
-    words.copy_from_slice(&record[..shape.node_words()]);
+    arena[shape.node_at(node)..][..NODE_WORDS].copy_from_slice(&record);
     me.spare = node;
     15
 }

@@ -8,6 +8,7 @@ mod converted;
 mod coverage;
 mod damaged;
 mod free_runs;
+mod layouts;
 mod lent;
 mod met;
 mod met_conversion_refusals;
@@ -19,6 +20,7 @@ mod met_rolls;
 mod met_searches;
 mod placed;
 mod reached;
+mod refused_old;
 mod requests;
 mod roots;
 mod schedules;
@@ -36,6 +38,8 @@ mod wrong_free_replies;
 mod wrong_free_runs;
 mod wrong_lengths;
 mod wrong_library;
+mod wrong_old;
+mod wrong_old_orders;
 mod wrong_others;
 mod wrong_runs;
 mod wrong_searches;
@@ -45,15 +49,16 @@ mod wrong_turns;
 use std::sync::atomic::{AtomicU64, Ordering};
 use std::thread;
 
-use model::arena::{check_header, set, LAYOUT_2, STAGE};
+use model::arena::{check_header, set, OLD_LAYOUT, STAGE};
 use model::rng::Rng;
 
-use crate::library::{stored_values, Library, Values};
+use crate::library::{count_values, Library, Values};
 use arenas::{Arenas, Kind};
 use chain::Chain;
 use comparer::{Comparer, Outcome};
 use coverage::Column;
 use free_runs::FreeRuns;
+use layouts::{new_words, AnyShape};
 use met::TurnWait;
 use requests::Request;
 use roots::Rooted;
@@ -216,10 +221,20 @@ impl<'a> Examiner<'a> {
 
     /// Notes what the model was asked last, and replied.
     fn note(&mut self, reached: bool, words: &[u16], request: &Request, reply: u64) {
-        let Tally { coverage, met, .. } = &mut self.tally;
+        let Tally {
+            coverage,
+            refused_old,
+            met,
+            ..
+        } = &mut self.tally;
         let stage = stage_before(words, request);
-        let column = Column::of(layout_of(words, request), reached);
-        coverage.note(request.entry_point(), reply, stage, column);
+        let entry_point = request.entry_point();
+        coverage.note(entry_point, reply, stage, column(words, request, reached));
+        let is_old = AnyShape::check(words).is_ok_and(AnyShape::is_old);
+        if is_old && reply == u64::from(OLD_LAYOUT) {
+            let in_use = self.comparer.model_reply(&new_words(words), request);
+            refused_old.note(entry_point, in_use);
+        }
         if let Some(wait) = TurnWait::read(words, request, reply) {
             if reached {
                 coverage.note_wait(wait.is_for_other_busy());
@@ -259,7 +274,7 @@ impl<'a> Examiner<'a> {
                 met.note_free_run(&runs, reached);
             }
             Request::Stored if reached => {
-                coverage.note_count(values == stored_values(size_if_counted(words)));
+                coverage.note_count(values == count_values(set(words).len()));
             }
             _ => {}
         }
@@ -278,17 +293,11 @@ fn is_set_of(words: &[u16], keys: &[u16]) -> bool {
     set.iter().map(|label| label.key).eq(keys.iter().copied())
 }
 
-/// The size of the set, where a count of it is kept.
-fn size_if_counted(words: &[u16]) -> Option<u16> {
-    (words[0] == LAYOUT_2).then(|| set(words).len() as u16)
-}
-
-/// The layout that is to be laid, or the one that the arena names.
-fn layout_of(words: &[u16], request: &Request) -> u16 {
-    match *request {
-        Request::Init { layout, .. } => layout,
-        Request::Run { .. } => LAYOUT_2,
-        _ => words.first().copied().unwrap_or(0),
+/// Where the reply is counted.
+fn column(words: &[u16], request: &Request, reached: bool) -> Column {
+    match request {
+        Request::Init { .. } | Request::Run { .. } => Column::LAID,
+        _ => Column::of(words, reached),
     }
 }
 

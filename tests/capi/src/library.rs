@@ -15,7 +15,7 @@ pub const WAIT_WORDS: usize = 4;
 
 /// The C interface: lent words are changed in place, and a reply is one number.
 pub trait Library: Sync {
-    fn init(&self, arena: &mut [u16], layout: u16, workers: u16, nodes: u16) -> u64;
+    fn init(&self, arena: &mut [u16], workers: u16, nodes: u16) -> u64;
     fn start(&self, arena: &mut [u16], worker: u16, call: Start) -> u64;
     fn turn(&self, arena: &mut [u16], worker: u16) -> u64;
     fn snapshot(&self, arena: &[u16], keys: &mut [u16]) -> u64;
@@ -74,13 +74,7 @@ impl Run<'_> {
 
 mod c {
     extern "C" {
-        pub fn lazy_list_init(
-            arena: *mut u16,
-            length: usize,
-            layout: u16,
-            workers: u16,
-            nodes: u16,
-        ) -> u64;
+        pub fn lazy_list_init(arena: *mut u16, length: usize, workers: u16, nodes: u16) -> u64;
         pub fn lazy_list_start(
             arena: *mut u16,
             length: usize,
@@ -134,8 +128,8 @@ mod c {
 pub struct Proved;
 
 impl Library for Proved {
-    fn init(&self, arena: &mut [u16], layout: u16, workers: u16, nodes: u16) -> u64 {
-        unsafe { c::lazy_list_init(arena.as_mut_ptr(), arena.len(), layout, workers, nodes) }
+    fn init(&self, arena: &mut [u16], workers: u16, nodes: u16) -> u64 {
+        unsafe { c::lazy_list_init(arena.as_mut_ptr(), arena.len(), workers, nodes) }
     }
 
     fn start(&self, arena: &mut [u16], worker: u16, call: Start) -> u64 {
@@ -281,19 +275,11 @@ fn report_values(report: turn::Report) -> Values {
     }
 }
 
-fn count_values(count: usize) -> Values {
+pub fn count_values(count: usize) -> Values {
     Values {
         first: count as u16,
         ..Values::default()
     }
-}
-
-/// What stands for the count of an arena that keeps none.
-const NOT_COUNTED: u16 = 65_535;
-
-/// The count.
-pub fn stored_values(count: Option<u16>) -> Values {
-    count_values(count.unwrap_or(NOT_COUNTED).into())
 }
 
 /// The node, or 65,535 for none; the next words read.
@@ -315,8 +301,8 @@ pub fn free_run_values(run: free_run::FreeRun) -> Values {
 }
 
 impl Library for Model {
-    fn init(&self, arena: &mut [u16], layout: u16, workers: u16, nodes: u16) -> u64 {
-        nothing_told(arena::init(arena, layout, workers, nodes))
+    fn init(&self, arena: &mut [u16], workers: u16, nodes: u16) -> u64 {
+        nothing_told(arena::init(arena, workers, nodes))
     }
 
     fn start(&self, arena: &mut [u16], worker: u16, call: Start) -> u64 {
@@ -345,7 +331,7 @@ impl Library for Model {
     }
 
     fn stored(&self, arena: &[u16]) -> u64 {
-        number(count::stored(arena).map(stored_values))
+        number(count::stored(arena).map(|count| count_values(count.into())))
     }
 
     fn to_layout_2(&self, source: &mut [u16], lengths: &mut [u16], target: &mut [u16]) -> u64 {

@@ -22,14 +22,14 @@ const REPEATS: usize = 1_000;
 /// A label's length where none is wanted in particular.
 const LENGTH: u16 = 2;
 
-fn fresh(layout: u16, nodes: u16) -> Vec<u16> {
-    let shape = Shape::new(layout, WORKERS, nodes).expect("good counts");
+fn fresh(nodes: u16) -> Vec<u16> {
+    let shape = Shape::new(WORKERS, nodes).expect("good counts");
     let mut arena = vec![0; shape.total()];
-    init(&mut arena, layout, WORKERS, nodes).expect("words enough");
+    init(&mut arena, WORKERS, nodes).expect("words enough");
     arena
 }
 
-/// An arena of layout 2 whose chain holds the keys 2, 4, 6, and so on.
+/// An arena whose chain holds the keys 2, 4, 6, and so on.
 fn arena_with_keys(nodes: u16, keys: u16) -> Vec<u16> {
     let label = |place| Label {
         key: 2 * place,
@@ -38,15 +38,15 @@ fn arena_with_keys(nodes: u16, keys: u16) -> Vec<u16> {
     arena_with_labels(nodes, (1..=keys).map(label))
 }
 
-/// An arena of layout 2 whose chain holds these labels.
+/// An arena whose chain holds these labels.
 fn arena_with_labels(nodes: u16, labels: impl Iterator<Item = Label>) -> Vec<u16> {
-    let mut arena = fresh(LAYOUT_2, nodes);
+    let mut arena = fresh(nodes);
     let shape = shape_of(&arena);
     let mut last = HEAD;
     for (node, label) in (2..).zip(labels) {
         let at = shape.node_at(node);
         let record = [label.key, TAIL, 0, 0, label.length];
-        arena[at..at + MAX_NODE_WORDS].copy_from_slice(&record);
+        arena[at..at + NODE_WORDS].copy_from_slice(&record);
         arena[shape.node_at(last) + NEXT] = node;
         arena[COUNT] += 1;
         last = node;
@@ -158,7 +158,7 @@ pub fn stage_14(nodes: u16, keys: u16) -> SameTurn {
 /// Adds by worker 0, one after another on a fresh arena, until one is answered full. Each key is the
 /// lowest so far, so that no add walks along the chain.
 pub fn filling(nodes: u16) -> Fill {
-    let mut arena = fresh(LAYOUT_2, nodes);
+    let mut arena = fresh(nodes);
     let words = Words::new(arena.clone(), 0);
     let (mut entries, mut adds) = (Vec::new(), 0);
     let mut answer = None;
@@ -254,13 +254,12 @@ fn repeated(arena: Vec<u16>, out: usize, call: Call) -> Repeated {
     }
 }
 
-pub fn inits(layout: u16, nodes: u16) -> Repeated {
+pub fn inits(nodes: u16) -> Repeated {
     let init = Call::Init {
-        layout,
         workers: WORKERS,
         nodes,
     };
-    repeated(vec![0; fresh(layout, nodes).len()], 0, init)
+    repeated(vec![0; fresh(nodes).len()], 0, init)
 }
 
 /// Snapshots of a full chain.
@@ -307,7 +306,7 @@ fn in_both_layouts(labels: u16) -> [Vec<u16>; 2] {
         length: 1,
     };
     let new = arena_with_labels(MAX_NODES, (1..=labels).map(label));
-    let mut old = fresh(LAYOUT_1, MAX_NODES);
+    let mut old = vec![0; shape_of(&new).in_layout::<LAYOUT_1>().total()];
     to_layout_1(&new, &mut old).expect("labels of length 1");
     [old, new]
 }

@@ -14,8 +14,8 @@ pub struct PlainRust;
 
 impl Library for PlainRust {
     #[inline(never)]
-    fn init(&self, arena: &mut [u16], layout: u16, workers: u16, nodes: u16) -> u64 {
-        Model.init(arena, layout, workers, nodes)
+    fn init(&self, arena: &mut [u16], workers: u16, nodes: u16) -> u64 {
+        Model.init(arena, workers, nodes)
     }
 
     #[inline(never)]

@@ -1,7 +1,5 @@
 //! What the tables measure.
 
-use model::arena::{LAYOUT_1, LAYOUT_2};
-
 use crate::benchmark::inputs;
 use crate::benchmark::measure::{measure, Measured, Workload};
 
@@ -42,9 +40,7 @@ pub fn side_by_side(rounds: usize, show: &mut dyn FnMut(Row)) {
     };
     show(run("entry of a run, 1,024 nodes", 1_024));
     show(run("entry of a run, 64 nodes", 64));
-    let init = |what, layout| other(what, &inputs::inits(layout, 1_024), rounds);
-    show(init("init, 1,024 nodes, layout 1", LAYOUT_1));
-    show(init("init, 1,024 nodes, layout 2", LAYOUT_2));
+    show(other("init, 1,024 nodes", &inputs::inits(1_024), rounds));
     let snapshots = inputs::snapshots(1_024);
     show(other("snapshot, 1,022 keys", &snapshots, rounds));
     let searches = inputs::searches(1_024);

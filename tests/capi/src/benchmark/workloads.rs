@@ -142,16 +142,10 @@ impl Workload for Runs {
 
 /// A call that leaves the words as it finds them, or writes the same anew.
 pub enum Call {
-    Init {
-        layout: u16,
-        workers: u16,
-        nodes: u16,
-    },
+    Init { workers: u16, nodes: u16 },
     Snapshot,
     FindFree,
-    LongestFreeRun {
-        last_cell: u16,
-    },
+    LongestFreeRun { last_cell: u16 },
     Stored,
     ToLayout2,
     ToLayout1,
@@ -161,11 +155,7 @@ impl Call {
     fn reply<L: Library>(&self, library: &L, words: &mut Words) -> u64 {
         let (arena, out) = (&mut words.arena, &mut words.out);
         match *self {
-            Call::Init {
-                layout,
-                workers,
-                nodes,
-            } => library.init(arena, layout, workers, nodes),
+            Call::Init { workers, nodes } => library.init(arena, workers, nodes),
             Call::Snapshot => library.snapshot(arena, out),
             Call::FindFree => library.find_free(arena),
             Call::LongestFreeRun { last_cell } => library.longest_free_run(arena, last_cell),

@@ -5,6 +5,7 @@ use model::arena::{check_header, Shape, STAGE};
 use model::rng::Rng;
 
 use super::damaged;
+use super::layouts::age;
 use super::placed;
 use super::reached::Reached;
 
@@ -62,6 +63,9 @@ impl Kind {
     }
 }
 
+/// How many of the good ones are brought into the old layout, whose headers are refused.
+const PERCENT_OLD: u64 = 15;
+
 /// Makes the arenas of one block, in order.
 #[derive(Default)]
 pub struct Arenas {
@@ -98,6 +102,9 @@ impl Arenas {
         let shape = check_header(&self.words).ok();
         self.workers = shape.map_or(3, |shape| shape.workers);
         self.likely_worker = placed_worker.unwrap_or_else(|| self.busy_worker(rng, shape));
+        if shape.is_some() && rng.chance(PERCENT_OLD) {
+            age(rng, &mut self.words);
+        }
     }
 
     /// A random worker; after three idle or waiting ones, whichever it is.

@@ -3,6 +3,8 @@
 
 use model::arena::*;
 
+use super::layouts::AnyShape;
+
 /// Where the nodes of a chain end.
 #[derive(Clone, Copy, Debug, PartialEq, Eq)]
 pub enum End {
@@ -16,15 +18,25 @@ pub enum End {
 /// The nodes between Head and Tail, marked or not, up to the first fault.
 pub struct Chain<'a> {
     words: &'a [u16],
-    pub shape: Shape,
+    pub shape: AnyShape,
     pub nodes: Vec<u16>,
     pub end: End,
 }
 
 impl<'a> Chain<'a> {
-    /// None if the header is not good.
+    /// None if the header is not good, or an old one.
     pub fn of(words: &'a [u16]) -> Option<Chain<'a>> {
         let shape = check_header(words).ok()?;
+        Some(Chain::of_shape(words, shape.into()))
+    }
+
+    /// The same in either layout, for sources of a converter.
+    pub fn of_any(words: &'a [u16]) -> Option<Chain<'a>> {
+        let shape = AnyShape::check(words).ok()?;
+        Some(Chain::of_shape(words, shape))
+    }
+
+    fn of_shape(words: &'a [u16], shape: AnyShape) -> Chain<'a> {
         let mut chain = Chain {
             words,
             shape,
@@ -35,15 +47,15 @@ impl<'a> Chain<'a> {
         loop {
             let node = chain.word(last, NEXT);
             if node == TAIL {
-                return Some(chain);
+                return chain;
             }
             if node >= shape.nodes {
                 chain.end = End::Link;
-                return Some(chain);
+                return chain;
             }
             if chain.word(node, KEY) <= chain.word(last, KEY) {
                 chain.end = End::Key(node);
-                return Some(chain);
+                return chain;
             }
             chain.nodes.push(node);
             last = node;
@@ -55,7 +67,7 @@ impl<'a> Chain<'a> {
     }
 
     pub fn label(&self, node: u16) -> Label {
-        Label::read(self.words, self.shape, self.shape.node_at(node))
+        self.shape.label(self.words, node)
     }
 
     pub fn is_marked(&self, node: u16) -> bool {

@@ -31,6 +31,8 @@ pub struct Comparer<'a> {
     library: &'a dyn Library,
     tested: Desk,
     model: Desk,
+    /// For what else the model is asked.
+    aside: Desk,
     /// What lent words hold before a library writes them: no two neighbours alike.
     background: Vec<u16>,
 }
@@ -53,6 +55,7 @@ impl<'a> Comparer<'a> {
             library,
             tested: Desk::default(),
             model: Desk::default(),
+            aside: Desk::default(),
             background: (0..MOST_WORDS).map(|place| 40_000 - place as u16).collect(),
         }
     }
@@ -71,6 +74,11 @@ impl<'a> Comparer<'a> {
             model_reply,
             difference: first,
         }
+    }
+
+    /// The model's reply alone; what it left in the last comparison stays.
+    pub fn model_reply(&mut self, arena: &[u16], request: &Request) -> u64 {
+        self.aside.ask(&Model, arena, request, &self.background)
     }
 
     /// The arena as the model left it.
@@ -109,11 +117,9 @@ impl Desk {
         self.arena.lend(arena);
         self.lend_rows(request, background);
         match *request {
-            Request::Init {
-                layout,
-                workers,
-                nodes,
-            } => library.init(self.arena.words_mut(), layout, workers, nodes),
+            Request::Init { workers, nodes } => {
+                library.init(self.arena.words_mut(), workers, nodes)
+            }
             Request::Start { worker, call } => library.start(self.arena.words_mut(), worker, call),
             Request::Turn { worker } => library.turn(self.arena.words_mut(), worker),
             Request::Snapshot { .. } => library.snapshot(self.arena.words(), self.keys.words_mut()),

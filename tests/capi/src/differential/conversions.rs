@@ -4,7 +4,7 @@ use model::arena::*;
 use model::rng::Rng;
 
 use super::chain::Chain;
-use super::placed::in_other_layout;
+use super::layouts::AnyShape;
 use super::requests::Request;
 use super::sources::some_of;
 use super::spread::any_length;
@@ -23,12 +23,12 @@ pub fn conversion(rng: &mut Rng, source: &[u16]) -> Request {
 
 /// About as many words as the converted arena takes, with any content.
 fn target(rng: &mut Rng, source: &[u16]) -> Vec<u16> {
-    let shape = check_header(source).unwrap_or(Shape {
+    let shape = AnyShape::check(source).unwrap_or(AnyShape {
         layout: LAYOUT_1,
         workers: 1,
         nodes: 3,
     });
-    let needed = in_other_layout(shape).total();
+    let needed = shape.other().total();
     let room = match rng.range(0, 39) {
         0..=15 => needed,
         16..=32 => needed + rng.index(12),
@@ -57,7 +57,7 @@ fn target(rng: &mut Rng, source: &[u16]) -> Vec<u16> {
 /// Lengths that the labels may have, and any for the other nodes; then perhaps one of a label that it
 /// may not have, 1 for all, or another number of lengths.
 fn lengths(rng: &mut Rng, source: &[u16]) -> Vec<u16> {
-    let Some(chain) = Chain::of(source) else {
+    let Some(chain) = Chain::of_any(source) else {
         return vec![1; rng.index(9)];
     };
     let mut lengths = any_lengths(rng, chain.shape.nodes);

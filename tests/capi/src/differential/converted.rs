@@ -7,6 +7,7 @@ use model::rng::Rng;
 use super::arenas::Kind;
 use super::chain::Chain;
 use super::conversions;
+use super::layouts::AnyShape;
 use super::met_conversions::Conversion;
 use super::requests::{self, Request};
 use super::sources::{self, Source};
@@ -51,15 +52,15 @@ impl Examiner<'_> {
     /// What was converted goes back into just as many words as the source had, with length 1 for all:
     /// from layout 1 and back that gives the source, if its labels got length 1.
     fn convert_back(&mut self, number: u64, source: &Source, converted: &Source) {
-        let shape = check_header(&source.words).expect("it was accepted");
+        let shape = AnyShape::check(&source.words).expect("it was accepted");
         let target = vec![7; shape.total()];
-        let request = if shape.layout == LAYOUT_1 {
+        let request = if shape.is_old() {
             Request::ToLayout1 { target }
         } else {
             let lengths = vec![1; shape.nodes.into()];
             Request::ToLayout2 { lengths, target }
         };
-        let is_due = shape.layout == LAYOUT_2 || has_ones(&converted.words);
+        let is_due = !shape.is_old() || has_ones(&converted.words);
         let back = self.converted(number, converted, &request);
         let is_source = back
             .as_ref()
@@ -69,16 +70,18 @@ impl Examiner<'_> {
         self.tally.met.note_way_back(shape.layout, is_due);
     }
 
-    /// Starts and turns on the converted arena, beside the model's, and what is told of it on the way.
+    /// Starts and turns on the converted arena, beside the model's, and what is told of it on the way. In
+    /// the old layout all of it is refused.
     fn work_on(&mut self, number: u64, converted: Source, rng: &mut Rng) {
         let Source {
             mut words,
             is_reached,
         } = converted;
-        for _ in 0..rng.range(2, 6) {
-            let shape = check_header(&words).expect("a converted arena");
+        let shape = AnyShape::check(&words).expect("a converted arena");
+        let (rounds, most_entries) = if shape.is_old() { (1, 6) } else { (6, 25) };
+        for _ in 0..rng.range(rounds.min(2), rounds) {
             let worker = rng.word(0, shape.workers - 1);
-            for _ in 0..rng.range(5, 25) {
+            for _ in 0..rng.range(5, most_entries) {
                 let request = next_entry(rng, &words, shape, worker);
                 let reply = self.compare_from(number, is_reached, &words, &request);
                 self.tally.met.note_work(&words, shape, &request, reply);
@@ -99,20 +102,19 @@ impl Examiner<'_> {
 }
 
 /// A turn, or a start if the worker is idle: with a key of the chain, or one beside it.
-fn next_entry(rng: &mut Rng, words: &[u16], shape: Shape, worker: u16) -> Request {
-    if words[shape.worker_at(worker) + STAGE] != 0 {
+fn next_entry(rng: &mut Rng, words: &[u16], shape: AnyShape, worker: u16) -> Request {
+    if words[shape.worker_at(worker) + STAGE] != 0 || rng.chance(3) {
         return Request::Turn { worker };
     }
     let operation = *rng.pick(&[ADD, ADD, REMOVE, REMOVE, CONTAINS]);
-    let chain = Chain::of(words).expect("a converted arena");
+    let chain = Chain::of_any(words).expect("a converted arena");
     let key = match chain.nodes.get(rng.index(4)) {
         Some(&node) => chain.word(node, KEY).saturating_sub(rng.word(0, 1)),
         None => rng.word(1, 9),
     };
-    let length = if shape.layout == LAYOUT_2 && operation == ADD {
-        rng.word(1, 3)
-    } else {
-        0
+    let length = match operation {
+        ADD => rng.word(1, 3),
+        _ => 0,
     };
     let call = Start {
         operation,
@@ -124,7 +126,7 @@ fn next_entry(rng: &mut Rng, words: &[u16], shape: Shape, worker: u16) -> Reques
 
 /// Whether the converted arena has the set of the source, with the lengths that were lent for it.
 fn is_same_set(source: &[u16], request: &Request, converted: &[u16]) -> bool {
-    let chain = Chain::of(source).expect("it was accepted");
+    let chain = Chain::of_any(source).expect("it was accepted");
     let label = |node: u16| Label {
         key: chain.word(node, KEY),
         length: match request {
@@ -133,7 +135,24 @@ fn is_same_set(source: &[u16], request: &Request, converted: &[u16]) -> bool {
         },
     };
     let labels = chain.listed_nodes().into_iter().map(label);
-    set(converted).into_iter().eq(labels)
+    set_in_any(converted).into_iter().eq(labels)
+}
+
+/// The labels of the set, without lengths in the old layout.
+fn set_in_any(converted: &[u16]) -> Vec<Label> {
+    match OldShape::read(converted) {
+        Some(old) => {
+            let (places, length) = (set_places(converted, old).into_iter(), 0);
+            let key = |at: usize| converted[at + KEY];
+            places
+                .map(|at| Label {
+                    key: key(at),
+                    length,
+                })
+                .collect()
+        }
+        None => set(converted),
+    }
 }
 
 fn has_ones(converted: &[u16]) -> bool {
@@ -143,12 +162,9 @@ fn has_ones(converted: &[u16]) -> bool {
 /// Whether the arena that was sent there and back has the source's words: all of layout 1, and of
 /// layout 2 all but the count and the lengths of nodes that are not in the set.
 fn is_same_arena(source: &Source, back: &Source) -> bool {
-    let Ok(shape) = check_header(&source.words) else {
-        return false;
-    };
+    let shape = AnyShape::check(&source.words).expect("it was accepted");
     let mut due = source.words[..shape.total()].to_vec();
-    if shape.layout == LAYOUT_2 {
-        let chain = Chain::of(&source.words).expect("it was accepted");
+    if let Some(chain) = Chain::of(&source.words) {
         let listed = chain.listed_nodes();
         for (node, is_listed) in (0..).zip(chain.row_of(&listed)) {
             due[shape.node_at(node) + LENGTH] *= u16::from(is_listed);

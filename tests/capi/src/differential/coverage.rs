@@ -1,68 +1,66 @@
-//! What the comparison must have met: every reply and every move that the documents know, in both
-//! layouts.
+//! What the comparison must have met: every reply and every move that the documents know, on arenas of
+//! the layout in use, of the old one, and of neither.
 
-use model::arena::{BROKEN_COUNT, LAYOUTS};
+use model::arena::{OldShape, BROKEN_COUNT, LAYOUT_1, LAYOUT_2, OLD_LAYOUT};
 
 use super::requests::EntryPoint;
 use crate::library::{self, Values};
 
-/// Of either layout, on arenas reached from a fresh one and on all others; and of no layout.
-const COLUMNS: [&str; 5] = ["1, fresh", "1, others", "2, fresh", "2, others", "neither"];
+/// Of layout 2, on arenas reached from a fresh one and on all others; with a good header of layout 1, the
+/// same; with an odd one of layout 1; and of neither layout.
+const COLUMNS: [&str; 6] = [
+    "2, fresh",
+    "2, others",
+    "1, fresh",
+    "1, others",
+    "1, odd",
+    "neither",
+];
 type Counts = [u64; COLUMNS.len()];
-const NEITHER: usize = 4;
+/// What must be met must be met in one of these.
+const GROUPS: [&[usize]; 4] = [&[0, 1], &[2, 3], &[4], &[5]];
 
 /// Where a reply is counted.
 #[derive(Clone, Copy)]
 pub struct Column(usize);
 
 impl Column {
-    pub fn of(layout: u16, reached: bool) -> Column {
-        let place = LAYOUTS.iter().position(|&known| known == layout);
+    /// By the arena's header, which may tell of more words than there are.
+    pub fn of(words: &[u16], reached: bool) -> Column {
         let others = usize::from(!reached);
-        Column(place.map_or(NEITHER, |place| 2 * place + others))
+        Column(match words.first() {
+            Some(&LAYOUT_2) => others,
+            Some(&LAYOUT_1) if OldShape::read(words).is_some() => 2 + others,
+            Some(&LAYOUT_1) => 4,
+            _ => 5,
+        })
     }
+
+    /// Of what lays layout 2, whatever the words are.
+    pub const LAID: Column = Column(1);
 }
 
 /// The refusals of each entry point, in the documents' order.
 const REFUSALS: [(EntryPoint, &str, &[u64]); 10] = [
     (EntryPoint::Init, "init", &[10, 1]),
-    (EntryPoint::Start, "start", &[1, 2, 3, 6, 4, 5]),
-    (EntryPoint::Turn, "turn", &[1, 2, 3, 6, 7, 14]),
-    (EntryPoint::Snapshot, "snapshot", &[1, 2, 7, 8]),
-    (EntryPoint::FindFree, "find_free", &[1, 2]),
+    (EntryPoint::Start, "start", &[1, 2, 12, 3, 6, 4, 5]),
+    (EntryPoint::Turn, "turn", &[1, 2, 12, 3, 6, 7, 14]),
+    (EntryPoint::Snapshot, "snapshot", &[1, 2, 12, 7, 8]),
+    (EntryPoint::FindFree, "find_free", &[1, 2, 12]),
     (
         EntryPoint::LongestFreeRun,
         "longest_free_run",
-        &[1, 2, 5, 7, 13],
+        &[1, 2, 12, 5, 7],
     ),
-    (EntryPoint::Stored, "stored", &[1, 2]),
+    (EntryPoint::Stored, "stored", &[1, 2, 12]),
     (EntryPoint::ToLayout2, "to_layout_2", &[1, 2, 6, 4, 7, 8, 5]),
     (EntryPoint::ToLayout1, "to_layout_1", &[1, 2, 6, 4, 7, 8, 5]),
     (EntryPoint::Run, "run", &[10, 9, 1, 8]),
 ];
 const ACCEPTED: u64 = 0;
+const OLD: u64 = OLD_LAYOUT as u64;
 /// Of all refusals, and 0.
 const REPLIES: usize = BROKEN_COUNT as usize + 1;
-/// What may be met where neither layout is named.
-const WITHOUT_LAYOUT: [(EntryPoint, u64); 17] = [
-    (EntryPoint::Init, 10),
-    (EntryPoint::Start, 1),
-    (EntryPoint::Start, 2),
-    (EntryPoint::Turn, 1),
-    (EntryPoint::Turn, 2),
-    (EntryPoint::Snapshot, 1),
-    (EntryPoint::Snapshot, 2),
-    (EntryPoint::FindFree, 1),
-    (EntryPoint::FindFree, 2),
-    (EntryPoint::LongestFreeRun, 1),
-    (EntryPoint::LongestFreeRun, 2),
-    (EntryPoint::Stored, 1),
-    (EntryPoint::Stored, 2),
-    (EntryPoint::ToLayout2, 1),
-    (EntryPoint::ToLayout2, 2),
-    (EntryPoint::ToLayout1, 1),
-    (EntryPoint::ToLayout1, 2),
-];
 
 /// What no arena reached from a fresh one may meet. The documents say it of turns; for the others it
 /// follows, since stages stay in their range and keys rise along every chain.
@@ -79,21 +77,25 @@ const NEVER_FROM_FRESH: [(EntryPoint, u64); 10] = [
     (EntryPoint::ToLayout1, 7),
 ];
 
-/// In which layouts a reply may be met.
-fn layouts(entry_point: EntryPoint, refusal: u64) -> [bool; LAYOUTS.len()] {
-    match (entry_point, refusal) {
-        // A run lays layout 2 alone.
-        (EntryPoint::Run, _) => [false, true],
-        // Layout 1 has no lengths.
-        (EntryPoint::LongestFreeRun, ACCEPTED) => [false, true],
-        (EntryPoint::LongestFreeRun, 13) => [true, false],
-        // Nor does it count.
-        (EntryPoint::Turn, 14) => [false, true],
+/// In which columns a reply may be met.
+fn allowed_in(entry_point: EntryPoint, refusal: u64, is_known: bool) -> [bool; COLUMNS.len()] {
+    let fresh = is_known && !NEVER_FROM_FRESH.contains(&(entry_point, refusal));
+    let by_header = matches!(refusal, 1 | 2);
+    match entry_point {
+        EntryPoint::Init | EntryPoint::Run => [false, is_known, false, false, false, false],
         // Each takes one layout, and refuses the other with 2.
-        (EntryPoint::ToLayout2 | EntryPoint::ToLayout1, 1 | 2) => [true, true],
-        (EntryPoint::ToLayout2, _) => [true, false],
-        (EntryPoint::ToLayout1, _) => [false, true],
-        _ => [true, true],
+        EntryPoint::ToLayout2 => {
+            let in_1 = is_known && refusal != 2;
+            let fresh = fresh && in_1;
+            [by_header, by_header, fresh, in_1, by_header, by_header]
+        }
+        EntryPoint::ToLayout1 => [fresh, is_known, by_header, by_header, by_header, by_header],
+        // The others are told 12 on a good header of layout 1, unless it is cut off, and nowhere else.
+        _ => {
+            let old = matches!(refusal, 1 | OLD);
+            let (fresh, is_known) = (fresh && refusal != OLD, is_known && refusal != OLD);
+            [fresh, is_known, old, old, by_header, by_header]
+        }
     }
 }
 
@@ -157,7 +159,7 @@ pub struct Coverage {
     not_by_roots: u64,
     /// Free runs that are not the first one of the longest that the labels leave.
     not_the_longest: u64,
-    /// Counts of layout 2, on arenas reached from a fresh one, that are not the size of the set.
+    /// Counts, on arenas reached from a fresh one, that are not the size of the set.
     not_the_size: u64,
     /// Converted arenas whose set, with the lengths lent, is not the source's.
     other_set: u64,
@@ -267,15 +269,15 @@ impl Coverage {
     }
 
     fn print_replies(&self, good: &mut Vec<bool>) {
-        for (entry_point, name, allowed) in REFUSALS {
+        for (entry_point, name, known) in REFUSALS {
             for refusal in 0..REPLIES as u64 {
                 let counts = self.replies[entry_point as usize][refusal as usize];
-                let is_allowed = refusal == ACCEPTED || allowed.contains(&refusal);
+                let is_known = refusal == ACCEPTED || known.contains(&refusal);
                 let row = match refusal {
                     ACCEPTED => format!("{name} accepted"),
                     _ => format!("{name} refused {refusal}"),
                 };
-                let rule = Rule::of_reply(entry_point, refusal, is_allowed, counts);
+                let rule = Rule::of_reply(allowed_in(entry_point, refusal, is_known), counts);
                 print_row(&row, counts, rule, good);
             }
         }
@@ -289,8 +291,8 @@ impl Coverage {
                 let allowed = is_move || NO_MOVES.contains(&(stage, report));
                 let row = format!("{stage} {}", report_name(report));
                 let rule = Rule {
-                    allowed: [allowed, allowed, allowed, allowed, false],
-                    missing: allowed && counts[..NEITHER].contains(&0),
+                    allowed: [allowed, allowed, false, false, false, false],
+                    missing: allowed && counts[..2].contains(&0),
                 };
                 print_row(&row, counts, rule, good);
             }
@@ -307,25 +309,13 @@ struct Rule {
 }
 
 impl Rule {
-    fn of_reply(entry_point: EntryPoint, refusal: u64, is_allowed: bool, counts: Counts) -> Rule {
-        let fresh = is_allowed && !NEVER_FROM_FRESH.contains(&(entry_point, refusal));
-        let [in_1, in_2] = layouts(entry_point, refusal);
-        let neither = WITHOUT_LAYOUT.contains(&(entry_point, refusal));
-        let allowed = [
-            fresh && in_1,
-            is_allowed && in_1,
-            fresh && in_2,
-            is_allowed && in_2,
-            neither,
-        ];
+    fn of_reply(allowed: [bool; COLUMNS.len()], counts: Counts) -> Rule {
         // Arenas in use have nothing broken in them, so they need not meet all.
-        let met = [
-            counts[0] + counts[1],
-            counts[2] + counts[3],
-            counts[NEITHER],
-        ];
-        let wanted = [allowed[1], allowed[3], allowed[NEITHER]];
-        let missing = (0..3).any(|place| wanted[place] && met[place] == 0);
+        let is_missing = |group: &&[usize]| {
+            let is_wanted = allowed[group[group.len() - 1]];
+            is_wanted && group.iter().all(|&column| counts[column] == 0)
+        };
+        let missing = GROUPS.iter().any(is_missing);
         Rule { allowed, missing }
     }
 }

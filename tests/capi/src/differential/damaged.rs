@@ -39,24 +39,18 @@ pub fn break_at_mark(rng: &mut Rng, words: &mut [u16]) {
     }
 }
 
-/// Another layout's number, its total, or its whole header; there may be too few words for it.
-fn change_layout(rng: &mut Rng, words: &mut Vec<u16>) {
+/// Another layout's number, the old one's total, or its whole header over the records as they stand.
+fn change_layout(rng: &mut Rng, words: &mut [u16]) {
     let shape = check_header(words).expect("a good arena so far");
-    let other = Shape {
-        layout: *rng.pick(&[0, 1, 2, 3]),
-        ..shape
-    };
+    let old: OldShape = shape.in_layout();
     match rng.range(0, 2) {
-        0 => words[0] = other.layout,
-        1 => words[5] = other.total() as u16,
-        _ => words[..HEADER_WORDS].copy_from_slice(&other.header(0)),
-    }
-    if rng.chance(50) {
-        words.resize(words.len().max(other.total()), 0);
+        0 => words[0] = *rng.pick(&[0, 1, 3]),
+        1 => words[5] = old.total() as u16,
+        _ => words[..HEADER_WORDS].copy_from_slice(&old.header(0)),
     }
 }
 
-/// A count at an edge of its range or beside one, in the range, or any. In layout 1 only 0 is good.
+/// A count at an edge of its range or beside one, in the range, or any.
 fn change_count(rng: &mut Rng, words: &mut [u16]) {
     let nodes = check_header(words).expect("a good arena so far").nodes;
     words[COUNT] = match rng.range(0, 9) {
@@ -68,14 +62,14 @@ fn change_count(rng: &mut Rng, words: &mut [u16]) {
 
 fn change_words(rng: &mut Rng, words: &mut [u16]) {
     for _ in 0..rng.range(1, 3) {
-        let Some(shape) = Shape::new(words[0], words[1], words[2]) else {
+        let Some(shape) = Shape::new(words[1], words[2]) else {
             return;
         };
         let at = match rng.range(0, 9) {
             0..=1 => rng.index(HEADER_WORDS),
             2..=4 => HEADER_WORDS + rng.index(WORKER_WORDS * shape.workers as usize),
             5..=7 => shape.node_at(node_in_use(rng, words, shape)) + NEXT,
-            _ => shape.node_at(rng.word(0, shape.nodes - 1)) + rng.index(shape.node_words()),
+            _ => shape.node_at(rng.word(0, shape.nodes - 1)) + rng.index(NODE_WORDS),
         };
         // A damaged header may tell of more than is there.
         if let Some(word) = words.get_mut(at) {
@@ -120,11 +114,7 @@ fn change_length(rng: &mut Rng, words: &mut Vec<u16>) {
 pub fn large(rng: &mut Rng, words: &mut Vec<u16>) {
     let nodes = *rng.pick(&[100, 512, 1_023, 1_024, 1_024]);
     let workers = *rng.pick(&[1, 7, 8, 8]);
-    let shape = Shape {
-        layout: some_layout(rng),
-        workers,
-        nodes,
-    };
+    let shape = Shape { workers, nodes };
     fresh(shape, words);
     match rng.range(0, 3) {
         0..=1 => build_chain(rng, words, shape),

@@ -17,10 +17,8 @@ use super::requests::Request;
 use super::schedules::needed;
 use crate::library::{self, Values, CALL_WORDS, WAIT_WORDS};
 
-const LARGEST: [&str; 2] = [
-    "arenas of layout 1, 8 workers and 1,024 nodes",
-    "arenas of layout 2, 8 workers and 1,024 nodes",
-];
+const LARGEST: &str = "arenas of 8 workers and 1,024 nodes";
+const LARGEST_OLD: &str = "old arenas of 8 workers and 1,024 nodes";
 const ALL_NODES: &str = "snapshots of 1,022 keys";
 const KEYS_FIT: &str = "snapshots with no word to spare";
 const KEYS_SPARE: &str = "snapshots with words to spare";
@@ -52,8 +50,8 @@ const CAME_BACK: &str = "look-ups whose key came back before they ended";
 
 /// In the order in which they are printed.
 const ALL: [&str; 30] = [
-    LARGEST[0],
-    LARGEST[1],
+    LARGEST,
+    LARGEST_OLD,
     ALL_NODES,
     KEYS_FIT,
     KEYS_SPARE,
@@ -126,10 +124,10 @@ impl Met {
     }
 
     pub fn note_arena(&mut self, words: &[u16]) {
-        for (place, layout) in LAYOUTS.into_iter().enumerate() {
-            let largest = Shape::new(layout, MAX_WORKERS, MAX_NODES);
-            self.add(LARGEST[place], check_header(words).ok() == largest);
-        }
+        let largest = Shape::new(MAX_WORKERS, MAX_NODES);
+        self.add(LARGEST, Shape::read(words) == largest);
+        let largest = largest.map(Shape::in_layout);
+        self.add(LARGEST_OLD, OldShape::read(words) == largest);
         self.note_totals(words);
     }
 

@@ -4,9 +4,9 @@
 use model::arena::*;
 
 use super::chain::{Chain, End};
+use super::layouts::AnyShape;
 use super::met::Met;
 use super::met_conversions::Conversion;
-use super::placed::in_other_layout;
 
 // By way: to layout 2, and to layout 1.
 const SHORT: [[&str; 2]; 2] = [
@@ -167,18 +167,18 @@ impl Met {
         let Some(&header) = source.first_chunk::<HEADER_WORDS>() else {
             return;
         };
-        let Some(shape) = Shape::new(header[0], header[1], header[2]) else {
+        let Some(shape) = Shape::new(header[1], header[2]) else {
             return;
         };
-        let is_own = usize::from(shape.layout) == way + 1;
-        let is_good = shape.is_header(&header);
-        self.add(
-            SHORT[way][0],
-            is_own && is_good && source.len() + 1 == shape.total(),
-        );
+        let shape: AnyShape = match way {
+            0 => shape.in_layout::<LAYOUT_1>().into(),
+            _ => shape.into(),
+        };
+        let is_good = header == shape.header(header[COUNT]);
+        self.add(SHORT[way][0], is_good && source.len() + 1 == shape.total());
         let edge = if way == 0 { 1 } else { shape.nodes - 1 };
         let is_odd_count = header == shape.header(edge);
-        self.add(HEADER[way][1], !is_short && is_own && is_odd_count);
+        self.add(HEADER[way][1], !is_short && is_odd_count);
     }
 
     fn note_broken_record(&mut self, way: usize, source: &[u16], chain: &Chain) {
@@ -219,17 +219,14 @@ impl Met {
             _ => last != HEAD && chain.is_marked(last),
         };
         self.add(marked, is_marked);
-        self.add(
-            short,
-            conversion.target.len() < in_other_layout(chain.shape).total(),
-        );
+        self.add(short, conversion.target.len() < chain.shape.other().total());
         self.add(bad, has_bad(conversion, chain));
     }
 
     fn note_no_target(&mut self, conversion: &Conversion, chain: &Chain) {
         let [one_short, empty, some, bad] = ROOM[conversion.way];
         let (room, lent) = (conversion.target.len(), conversion.lengths.len());
-        let (shape, new_shape) = (chain.shape, in_other_layout(chain.shape));
+        let (shape, new_shape) = (chain.shape, chain.shape.other());
         let is_short = room < new_shape.total();
         self.add(one_short, room + 1 == new_shape.total());
         self.add(empty, room == 0);
@@ -278,7 +275,7 @@ impl Met {
     }
 }
 
-fn stages(source: &[u16], shape: Shape) -> Vec<u16> {
+fn stages(source: &[u16], shape: AnyShape) -> Vec<u16> {
     let workers = 0..shape.workers;
     workers
         .map(|worker| source[shape.worker_at(worker) + STAGE])

@@ -3,9 +3,9 @@
 use model::arena::*;
 
 use super::chain::Chain;
+use super::layouts::AnyShape;
 use super::met::Met;
 use super::met_conversion_refusals as refusals;
-use super::placed::in_other_layout;
 use super::requests::Request;
 use crate::library::{Values, FINISHED};
 
@@ -96,13 +96,14 @@ const BACK: [&str; 3] = [
     "back from 2, some label longer",
     "back from 1",
 ];
-const WORK: [&str; 6] = [
+const WORK: [&str; 3] = [
     "from 1 to 2, then an add answered yes",
     "from 1 to 2, then a remove answered yes",
     "from 1 to 2, then a contains answered yes",
-    "from 2 to 1, then an add answered yes",
-    "from 2 to 1, then a remove answered yes",
-    "from 2 to 1, then a contains answered yes",
+];
+const NO_WORK: [&str; 2] = [
+    "from 2 to 1, then a start refused 12",
+    "from 2 to 1, then a turn refused 12",
 ];
 
 const BOTH_WAYS: [[&str; 2]; 17] = [
@@ -144,7 +145,11 @@ const ONE_WAY: [&str; 13] = [
 pub fn all() -> impl Iterator<Item = &'static str> {
     let accepted = BOTH_WAYS.into_iter().flatten();
     let accepted = accepted.chain(OTHERS_BAD.into_iter().flatten());
-    let accepted = accepted.chain(ONE_WAY).chain(BACK).chain(WORK);
+    let accepted = accepted
+        .chain(ONE_WAY)
+        .chain(BACK)
+        .chain(WORK)
+        .chain(NO_WORK);
     accepted.chain(refusals::all())
 }
 
@@ -173,7 +178,7 @@ impl<'a> Conversion<'a> {
             source,
             lengths,
             target,
-            chain: Chain::of(source),
+            chain: Chain::of_any(source),
         })
     }
 
@@ -189,7 +194,7 @@ impl<'a> Conversion<'a> {
     /// Whether a label may have this length.
     pub fn is_good(&self, label: Label) -> bool {
         let Label { key, length } = label;
-        is_call_length(LAYOUT_2, ADD, key, length) && (self.way == 0 || length == 1)
+        is_call_length(ADD, key, length) && (self.way == 0 || length == 1)
     }
 
     /// The labels of the set as the conversion has them.
@@ -268,11 +273,11 @@ impl Met {
 
     fn note_rooms(&mut self, conversion: &Conversion, chain: &Chain) {
         let (way, source, target) = (conversion.way, conversion.source, conversion.target);
-        let total = in_other_layout(chain.shape).total();
+        let total = chain.shape.other().total();
         let is_longer = source.len() > chain.shape.total() && target.len() > total;
         self.add(ALL_LONGER[way], is_longer);
         self.add(FITS[way], target.len() == total);
-        self.add(ARENA_BEFORE[way], check_header(target).is_ok());
+        self.add(ARENA_BEFORE[way], AnyShape::check(target).is_ok());
         self.add(SHORTER, way == 1 && target.len() < source.len());
     }
 
@@ -313,17 +318,20 @@ impl Met {
         self.add(BACK[place], true);
     }
 
-    /// Notes a call that ends on a converted arena, by what its worker's record held.
-    pub fn note_work(&mut self, words: &[u16], shape: Shape, request: &Request, reply: u64) {
-        let (&Request::Turn { worker }, Some(values)) = (request, Values::read(reply)) else {
-            return;
-        };
-        let operation = words[shape.worker_at(worker) + OPERATION];
-        let is_yes = (values.report, values.first) == (FINISHED, 1);
-        let first = if shape.layout == LAYOUT_2 { 0 } else { 3 };
-        let calls = WORK[first..first + 3].iter().zip(ADD..=CONTAINS);
-        for (name, call) in calls {
-            self.add(name, is_yes && operation == call);
+    /// Notes a call that ends on a converted arena, by what its worker's record held, and any entry in the
+    /// old layout.
+    pub fn note_work(&mut self, words: &[u16], shape: AnyShape, request: &Request, reply: u64) {
+        let is_refused = reply == u64::from(OLD_LAYOUT);
+        match (request, Values::read(reply)) {
+            (&Request::Turn { worker }, Some(values)) => {
+                let operation = words[shape.worker_at(worker) + OPERATION];
+                let is_yes = (values.report, values.first) == (FINISHED, 1);
+                for (name, call) in WORK.into_iter().zip(ADD..=CONTAINS) {
+                    self.add(name, is_yes && operation == call);
+                }
+            }
+            (Request::Start { .. }, _) => self.add(NO_WORK[0], is_refused),
+            _ => self.add(NO_WORK[1], is_refused),
         }
     }
 }

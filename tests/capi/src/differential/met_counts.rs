@@ -4,6 +4,7 @@
 use model::arena::*;
 
 use super::chain::{Chain, End};
+use super::layouts::AnyShape;
 use super::met::Met;
 use super::requests::{EntryPoint, Request};
 use crate::library::Values;
@@ -20,8 +21,6 @@ const ABOVE: &str = "stored: a count above the set's size";
 const BROKEN: &str = "stored: the chain is broken";
 const FRESH_MOST: &str = "stored from fresh: N less 2";
 const FRESH_MARKED: &str = "stored from fresh: a marked node on the chain";
-const IN_1: &str = "layout 1: stored, a label on the chain";
-const IN_1_BROKEN: &str = "layout 1: stored, the chain is broken";
 const ODD_COUNT: [&str; 3] = [
     "headers refused for a count of N less 1 alone",
     "headers refused for a count of N alone",
@@ -68,14 +67,11 @@ const ON_WRONG: [(EntryPoint, &str); 4] = [
     (EntryPoint::FindFree, "searches on a wrong count"),
     (EntryPoint::LongestFreeRun, "free runs on a wrong count"),
 ];
-const LAID_OVER: [&str; 2] = [
-    "layout 1: init over a word 6 that is not 0",
-    "layout 2: init over a word 6 that is not 0",
-];
+const LAID_OVER: &str = "init over a word 6 that is not 0";
 const RUN_OVER: &str = "runs over a word 6 that is not 0";
 
 /// In the order in which they are printed.
-pub const ALL: [&str; 43] = [
+pub const ALL: [&str; 40] = [
     TOLD[0],
     TOLD[1],
     TOLD[2],
@@ -86,8 +82,6 @@ pub const ALL: [&str; 43] = [
     BROKEN,
     FRESH_MOST,
     FRESH_MARKED,
-    IN_1,
-    IN_1_BROKEN,
     ODD_COUNT[0],
     ODD_COUNT[1],
     ODD_COUNT[2],
@@ -116,12 +110,11 @@ pub const ALL: [&str; 43] = [
     ON_WRONG[1].1,
     ON_WRONG[2].1,
     ON_WRONG[3].1,
-    LAID_OVER[0],
-    LAID_OVER[1],
+    LAID_OVER,
     RUN_OVER,
 ];
 
-/// A good header's count of layout 2, and the size of the set.
+/// A good header's count, and the size of the set.
 #[derive(Clone, Copy)]
 struct Counted {
     shape: Shape,
@@ -132,12 +125,11 @@ struct Counted {
 impl Counted {
     fn of(words: &[u16]) -> Option<Counted> {
         let shape = check_header(words).ok()?;
-        let counted = Counted {
+        Some(Counted {
             shape,
             count: words[COUNT],
             size: set(words).len() as u16,
-        };
-        (shape.layout == LAYOUT_2).then_some(counted)
+        })
     }
 
     fn is_most(&self) -> bool {
@@ -150,12 +142,11 @@ impl Counted {
 }
 
 /// The shape of a header that is odd for this word alone, which should be 0.
-fn odd_alone(words: &[u16], place: usize) -> Option<Shape> {
-    let mut header = *words.first_chunk::<HEADER_WORDS>()?;
-    let shape = Shape::new(header[0], header[1], header[2])?;
-    let is_odd = !shape.is_header(&header);
-    header[place] = 0;
-    (is_odd && shape.is_header(&header)).then_some(shape)
+fn odd_alone(words: &[u16], place: usize) -> Option<AnyShape> {
+    let mut repaired = words.to_vec();
+    *repaired.get_mut(place)? = 0;
+    let is_odd = AnyShape::check(words).is_err();
+    AnyShape::check(&repaired).ok().filter(|_| is_odd)
 }
 
 impl Met {
@@ -167,9 +158,7 @@ impl Met {
             Request::Stored if is_accepted => self.note_stored(words, reached),
             Request::Stored => self.note_odd(words, reply),
             Request::Turn { worker } => self.note_counting(words, worker, reply),
-            Request::Init { layout, .. } if is_accepted => {
-                self.add(LAID_OVER[layout as usize - 1], old_word);
-            }
+            Request::Init { .. } => self.add(LAID_OVER, is_accepted && old_word),
             Request::Run { .. } => self.add(RUN_OVER, is_accepted && old_word),
             _ if is_accepted => {
                 let counted = Counted::of(words);
@@ -185,10 +174,7 @@ impl Met {
     fn note_stored(&mut self, words: &[u16], reached: bool) {
         let chain = Chain::of(words).expect("the header was not refused");
         let is_broken = chain.end != End::Tail;
-        let Some(counted) = Counted::of(words) else {
-            self.add(IN_1, chain.listed() != 0);
-            return self.add(IN_1_BROKEN, is_broken);
-        };
+        let counted = Counted::of(words).expect("the header was not refused");
         let Counted { shape, count, size } = counted;
         let ends = [0, 1, shape.nodes - 3, shape.nodes - 2];
         for (name, end) in TOLD.into_iter().zip(ends) {

@@ -45,16 +45,13 @@ const BAD_LAST: [&str; 2] = [
     "free runs refused for last cell 0",
     "free runs refused for last cell 65,535",
 ];
-const BAD_LAST_IN_1: &str = "free runs refused 5 in layout 1";
 const BAD_LAST_BROKEN: &str = "free runs refused 5, the chain broken too";
-const BROKEN_IN_1: &str = "free runs refused 7 in layout 1";
 const BROKEN_BEHIND: &str = "free runs refused 7 behind the last cell";
 const MARKED_LINK: &str = "free runs refused for a marked node's link";
 const MARKED_KEY: &str = "free runs refused for a marked node's key";
-const MISSING_EMPTY: &str = "free runs refused 13 where no label is";
 
 /// In the order in which they are printed.
-pub const ALL: [&str; 43] = [
+pub const ALL: [&str; 40] = [
     NO_LABEL,
     BEFORE,
     BETWEEN,
@@ -91,13 +88,10 @@ pub const ALL: [&str; 43] = [
     FRESH_BETWEEN,
     BAD_LAST[0],
     BAD_LAST[1],
-    BAD_LAST_IN_1,
     BAD_LAST_BROKEN,
-    BROKEN_IN_1,
     BROKEN_BEHIND,
     MARKED_LINK,
     MARKED_KEY,
-    MISSING_EMPTY,
 ];
 
 /// Where the last cell may stand beside what a label covers.
@@ -222,25 +216,20 @@ impl Met {
         let Some(chain) = Chain::of(words) else {
             return;
         };
-        let is_in_1 = chain.shape.layout == LAYOUT_1;
         let refusal = reply as u16;
         if refusal == BAD_CALL {
             self.add(BAD_LAST[0], last_cell == 0);
             self.add(BAD_LAST[1], last_cell == 65_535);
-            self.add(BAD_LAST_IN_1, is_in_1);
             self.add(BAD_LAST_BROKEN, chain.end != End::Tail);
         }
-        self.add(BROKEN_IN_1, refusal == BROKEN_CHAIN && is_in_1);
-        let is_empty = chain.nodes.is_empty();
-        self.add(MISSING_EMPTY, refusal == LENGTHS_MISSING && is_empty);
-        if refusal == BROKEN_CHAIN && !is_in_1 && !is_empty {
+        if refusal == BROKEN_CHAIN && !chain.nodes.is_empty() {
             let last = chain.before(chain.nodes.len());
             self.add(BROKEN_BEHIND, chain.word(last, KEY) > last_cell);
             let is_link = chain.end == End::Link;
             self.add(MARKED_LINK, is_link && chain.is_marked(last));
         }
         if let (End::Key(node), BROKEN_CHAIN) = (chain.end, refusal) {
-            self.add(MARKED_KEY, !is_in_1 && chain.is_marked(node));
+            self.add(MARKED_KEY, chain.is_marked(node));
         }
     }
 }

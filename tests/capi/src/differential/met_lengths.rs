@@ -1,10 +1,9 @@
-//! What must have been met of layouts and lengths.
+//! What must have been met of totals and lengths.
 
 use model::arena::*;
 use model::run::{ENTRY_WORDS, MAX_SCHEDULE_WORDS};
 
 use super::met::Met;
-use super::placed::in_other_layout;
 use super::requests::Request;
 use crate::library::{self, Start, Values};
 
@@ -12,33 +11,24 @@ const OTHER_TOTAL: [&str; 2] = [
     "headers of layout 1 with the other's total",
     "headers of layout 2 with the other's total",
 ];
-const LENGTH_IN_1: [&str; 3] = [
-    "layout 1: adds refused for a length",
-    "layout 1: removes refused for a length",
-    "layout 1: look-ups refused for a length",
-];
 const NO_ADD: [&str; 2] = [
-    "layout 2: removes refused for a length",
-    "layout 2: look-ups refused for a length",
+    "removes refused for a length",
+    "look-ups refused for a length",
 ];
-const NO_LENGTH: &str = "layout 2: adds refused for length 0";
-const LENGTH_1: &str = "layout 2: adds of length 1";
-const LENGTH_65534: &str = "layout 2: adds of length 65,534";
-const LENGTH_65535: &str = "layout 2: adds refused for length 65,535";
-const END_65535: &str = "layout 2: adds with key and length 65,535";
-const END_65536: &str = "layout 2: adds refused for 65,536 together";
-const TAKEN_IN_1: &str = "layout 1: nodes taken, the eighth word not 0";
-const TAKEN_BAD: &str = "layout 2: nodes taken with a bad length";
+const NO_LENGTH: &str = "adds refused for length 0";
+const LENGTH_1: &str = "adds of length 1";
+const LENGTH_65534: &str = "adds of length 65,534";
+const LENGTH_65535: &str = "adds refused for length 65,535";
+const END_65535: &str = "adds with key and length 65,535";
+const END_65536: &str = "adds refused for 65,536 together";
+const TAKEN_BAD: &str = "nodes taken with a bad length";
 const ENTRIES_OF_3: &str = "runs refused for entries of three words";
 const BAD_LENGTHS: &str = "runs with an entry of a bad length alone";
 
 /// In the order in which they are printed.
-pub const ALL: [&str; 17] = [
+pub const ALL: [&str; 13] = [
     OTHER_TOTAL[0],
     OTHER_TOTAL[1],
-    LENGTH_IN_1[0],
-    LENGTH_IN_1[1],
-    LENGTH_IN_1[2],
     NO_ADD[0],
     NO_ADD[1],
     NO_LENGTH,
@@ -47,7 +37,6 @@ pub const ALL: [&str; 17] = [
     LENGTH_65535,
     END_65535,
     END_65536,
-    TAKEN_IN_1,
     TAKEN_BAD,
     ENTRIES_OF_3,
     BAD_LENGTHS,
@@ -58,16 +47,16 @@ fn has_good_key(call: Start) -> bool {
 }
 
 /// Whether the words would begin with this layout's header, had it not the other one's total.
-fn has_other_total(words: &[u16], layout: u16) -> bool {
+fn has_other_total<const LAYOUT: u16, const OTHER: u16>(words: &[u16]) -> bool {
     let Some(&header) = words.first_chunk::<HEADER_WORDS>() else {
         return false;
     };
-    let Some(shape) = Shape::new(layout, header[1], header[2]) else {
+    let Some(shape) = ShapeIn::<LAYOUT>::new(header[1], header[2]) else {
         return false;
     };
     let mut repaired = header;
     repaired[5] = shape.total() as u16;
-    header[5] == in_other_layout(shape).total() as u16 && shape.is_header(&repaired)
+    header[5] == shape.in_layout::<OTHER>().total() as u16 && shape.is_header(&repaired)
 }
 
 /// Whether some start of a schedule would be good with another length.
@@ -81,16 +70,15 @@ fn has_bad_length(schedule: &[u16]) -> bool {
             key,
             length,
         };
-        has_good_key(call) && !is_call_length(LAYOUT_2, operation, key, length)
+        has_good_key(call) && !is_call_length(operation, key, length)
     };
     schedule.chunks_exact(ENTRY_WORDS).any(is_bad)
 }
 
 impl Met {
     pub fn note_totals(&mut self, words: &[u16]) {
-        for (place, layout) in LAYOUTS.into_iter().enumerate() {
-            self.add(OTHER_TOTAL[place], has_other_total(words, layout));
-        }
+        self.add(OTHER_TOTAL[0], has_other_total::<LAYOUT_1, LAYOUT_2>(words));
+        self.add(OTHER_TOTAL[1], has_other_total::<LAYOUT_2, LAYOUT_1>(words));
     }
 
     /// Notes lengths at their limits, and where no start would have them.
@@ -99,7 +87,7 @@ impl Met {
             Request::Start { call, .. } => {
                 let is_accepted = Values::read(reply).is_some();
                 if is_accepted || (reply == u64::from(BAD_CALL) && has_good_key(*call)) {
-                    self.note_start(words[0], *call, is_accepted);
+                    self.note_start(*call, is_accepted);
                 }
             }
             Request::Turn { worker } => self.note_turn(words, *worker, reply),
@@ -115,26 +103,25 @@ impl Met {
     }
 
     /// A start that is accepted, or refused for its length alone.
-    fn note_start(&mut self, layout: u16, call: Start, is_accepted: bool) {
+    fn note_start(&mut self, call: Start, is_accepted: bool) {
         let Start {
             operation,
             key,
             length,
         } = call;
         let end = u32::from(key) + u32::from(length);
-        match (layout, operation, is_accepted) {
-            (LAYOUT_1, _, false) => self.add(LENGTH_IN_1[operation as usize - 1], true),
-            (LAYOUT_2, ADD, true) => {
+        match (operation, is_accepted) {
+            (ADD, true) => {
                 self.add(LENGTH_1, length == 1);
                 self.add(LENGTH_65534, length == 65_534);
                 self.add(END_65535, end == 65_535);
             }
-            (LAYOUT_2, ADD, false) => {
+            (ADD, false) => {
                 self.add(NO_LENGTH, length == 0);
                 self.add(LENGTH_65535, length == 65_535);
                 self.add(END_65536, end == 65_536);
             }
-            (LAYOUT_2, _, false) => self.add(NO_ADD[operation as usize - 2], true),
+            (_, false) => self.add(NO_ADD[operation as usize - 2], true),
             _ => {}
         }
     }
@@ -146,8 +133,7 @@ impl Met {
         };
         let record = &words[shape.worker_at(worker)..][..WORKER_WORDS];
         let (key, length) = (record[CALL_KEY], record[CALL_LENGTH]);
-        let is_good = is_call_length(LAYOUT_2, ADD, key, length);
-        self.add(TAKEN_IN_1, shape.layout == LAYOUT_1 && length != 0);
-        self.add(TAKEN_BAD, shape.layout == LAYOUT_2 && !is_good);
+        let is_good = is_call_length(ADD, key, length);
+        self.add(TAKEN_BAD, !is_good);
     }
 }

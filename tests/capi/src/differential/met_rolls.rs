@@ -7,10 +7,7 @@ use super::met::Met;
 use super::requests::Request;
 use crate::library::Values;
 
-const PASSED: [&str; 2] = [
-    "layout 1: snapshots past a marked node",
-    "layout 2: snapshots past a marked node",
-];
+const PASSED: &str = "snapshots past a marked node";
 const FROM_FRESH: &str = "snapshots from fresh past a marked node";
 const SEVERAL: &str = "snapshots past several marked nodes";
 const OTHER_MARK: &str = "snapshots past a mark above 1";
@@ -24,9 +21,8 @@ const BEHIND_MARKED: &str = "snapshots refused right behind a marked node";
 const MARKED_HEAD: &str = "snapshots with Head marked";
 
 /// In the order in which they are printed.
-pub const ALL: [&str; 13] = [
-    PASSED[0],
-    PASSED[1],
+pub const ALL: [&str; 12] = [
+    PASSED,
     FROM_FRESH,
     SEVERAL,
     OTHER_MARK,
@@ -50,7 +46,7 @@ impl Met {
         if Values::read(reply).is_some() {
             self.add(MARKED_HEAD, chain.is_marked(HEAD));
             if marked != 0 {
-                self.add(PASSED[words[0] as usize - 1], true);
+                self.add(PASSED, true);
                 self.add(FROM_FRESH, reached);
                 self.note_passed(&chain, marked, room);
             }

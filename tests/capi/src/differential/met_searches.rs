@@ -6,10 +6,7 @@ use model::arena::*;
 use super::met::Met;
 use super::roots::*;
 
-const NONE_FREE: [&str; 2] = [
-    "layout 1: searches that find none",
-    "layout 2: searches that find none",
-];
+const NONE_FREE: &str = "searches that find none";
 const NONE_OF_1024: &str = "searches of 1,024 nodes that find none";
 const FREE_BELOW: &str = "searches: a free node below one that is not";
 const LAST_FREE: &str = "searches: the last node is free, no other";
@@ -37,9 +34,8 @@ const ROOT_N: &str = "searches: a root is N";
 const PAST_TOTAL: &str = "searches with words past the total";
 
 /// In the order in which they are printed.
-pub const ALL: [&str; 23] = [
-    NONE_FREE[0],
-    NONE_FREE[1],
+pub const ALL: [&str; 22] = [
+    NONE_FREE,
     NONE_OF_1024,
     FREE_BELOW,
     LAST_FREE,
@@ -73,7 +69,7 @@ impl Met {
     pub fn note_search(&mut self, rooted: &Rooted, reached: bool) {
         let (shape, found) = (rooted.shape, rooted.found());
         let (node, reads) = (found.first, found.second);
-        self.add(NONE_FREE[shape.layout as usize - 1], node == NONE);
+        self.add(NONE_FREE, node == NONE);
         self.add(NONE_OF_1024, node == NONE && shape.nodes == MAX_NODES);
         self.add(FREE_BELOW, node < reads);
         self.add(LAST_FREE, node == shape.nodes - 1);

@@ -27,7 +27,7 @@ pub fn good_header(rng: &mut Rng, words: &mut Vec<u16>) -> u16 {
         words.extend(arbitrary_worker(rng, shape));
     }
     for _ in 0..shape.nodes {
-        words.extend(&arbitrary_node(rng, shape)[..shape.node_words()]);
+        words.extend(arbitrary_node(rng, shape));
     }
     words_past_total(rng, words);
     let likely = rng.word(0, shape.workers - 1);
@@ -57,22 +57,11 @@ pub fn write_count(rng: &mut Rng, words: &mut [u16], shape: Shape) {
     };
 }
 
-pub fn some_layout(rng: &mut Rng) -> u16 {
-    *rng.pick(&LAYOUTS)
-}
-
-/// The same counts in the other layout.
-pub fn in_other_layout(shape: Shape) -> Shape {
-    let layout = LAYOUT_1 + LAYOUT_2 - shape.layout;
-    Shape { layout, ..shape }
-}
-
-/// Either layout, and counts in their ranges, mostly small.
+/// Counts in their ranges, mostly small.
 pub fn small_shape(rng: &mut Rng) -> Shape {
     let most_workers = *rng.pick(&[2, 4, 8]);
     let most_nodes = *rng.pick(&[3, 5, 5, 8, 12, 12, 12, 40]);
     Shape {
-        layout: some_layout(rng),
         workers: rng.word(1, most_workers),
         nodes: rng.word(3, most_nodes),
     }
@@ -121,8 +110,7 @@ fn arbitrary_worker(rng: &mut Rng, shape: Shape) -> [u16; WORKER_WORDS] {
     [stage, operation, key, pred, curr, spare, answer, length]
 }
 
-/// In layout 1 without its last word.
-fn arbitrary_node(rng: &mut Rng, shape: Shape) -> [u16; MAX_NODE_WORDS] {
+fn arbitrary_node(rng: &mut Rng, shape: Shape) -> [u16; NODE_WORDS] {
     let key = usually(rng, 24);
     let next = node_number(rng, shape.nodes);
     let (mark, owner) = (often_zero(rng, 2), often_zero(rng, 9));
@@ -149,7 +137,7 @@ pub fn placed(rng: &mut Rng, words: &mut Vec<u16>) -> u16 {
 pub fn fresh(shape: Shape, words: &mut Vec<u16>) {
     words.clear();
     words.resize(shape.total(), 0);
-    init(words, shape.layout, shape.workers, shape.nodes).expect("counts in their ranges");
+    init(words, shape.workers, shape.nodes).expect("counts in their ranges");
 }
 
 /// A chain of rising keys over some or all nodes in any order, a few of them marked; the other
@@ -180,8 +168,7 @@ pub fn build_chain(rng: &mut Rng, words: &mut [u16], shape: Shape) {
         } else {
             continue;
         };
-        let width = shape.node_words();
-        words[shape.node_at(node)..][..width].copy_from_slice(&record[..width]);
+        words[shape.node_at(node)..][..NODE_WORDS].copy_from_slice(&record);
     }
     match rng.range(0, 9) {
         0 => words[shape.node_at(TAIL) + NEXT] = node_number(rng, shape.nodes),

@@ -4,7 +4,7 @@ use model::arena::*;
 use model::rng::Rng;
 use model::turn::turn;
 
-use super::placed::{fresh, some_layout, words_past_total};
+use super::placed::{fresh, words_past_total};
 
 /// An arena in use. Every state that it goes through is an arena to compare on.
 #[derive(Default)]
@@ -29,7 +29,6 @@ impl Reached {
     /// Few nodes and few keys, so that workers meet, wait, begin again and find no node free.
     pub fn small(rng: &mut Rng) -> Reached {
         let shape = Shape {
-            layout: some_layout(rng),
             workers: *rng.pick(&[1, 2, 2, 3, 3, 4, 5, 8]),
             nodes: rng.word(3, 8),
         };
@@ -48,7 +47,6 @@ impl Reached {
     /// A long chain, which adds have built from its far end since that takes the fewest turns.
     pub fn large(rng: &mut Rng) -> Reached {
         let shape = Shape {
-            layout: some_layout(rng),
             workers: *rng.pick(&[2, 3, 8, 8]),
             nodes: *rng.pick(&[64, 200, 512, 1_023, 1_024, 1_024, 1_024]),
         };
@@ -72,17 +70,11 @@ impl Reached {
 
     /// An add by worker 0, alone, up to its finish: below the first key it takes 14 turns.
     fn whole_add(&mut self, key: u16) {
-        let length = self.length(ADD, key % 9);
+        let length = 1 + key % 9;
         start(&mut self.words, 0, ADD, key, length).expect("worker 0 is idle");
         for _ in 0..14 {
             turn(&mut self.words, 0).expect("no turn from a fresh arena is refused");
         }
-    }
-
-    /// The length that a start of this operation carries: with an add in layout 2 one or more.
-    fn length(&self, operation: u16, more: u16) -> u16 {
-        let has_length = self.shape.layout == LAYOUT_2 && operation == ADD;
-        u16::from(has_length) * (1 + more)
     }
 
     /// Makes one entry: a start if the worker is idle, else a turn. None of them should be refused;
@@ -102,13 +94,15 @@ impl Reached {
                 _ => rng.word(1, self.keys),
             };
             // Mostly so short that some cells between labels are left.
-            let most = TAIL_KEY - key - 1;
             let most = if rng.chance(75) {
-                most.min(self.keys)
+                self.keys + 1
             } else {
-                most
+                TAIL_KEY
             };
-            let length = self.length(operation, rng.word(0, most));
+            let length = match operation {
+                ADD => rng.word(1, most.min(TAIL_KEY - key)),
+                _ => 0,
+            };
             let _ = start(&mut self.words, self.worker, operation, key, length);
         } else {
             let _ = turn(&mut self.words, self.worker);

@@ -26,7 +26,6 @@ pub enum EntryPoint {
 
 pub enum Request {
     Init {
-        layout: u16,
         workers: u16,
         nodes: u16,
     },
@@ -84,11 +83,9 @@ impl Request {
 impl fmt::Display for Request {
     fn fmt(&self, out: &mut fmt::Formatter) -> fmt::Result {
         match self {
-            Request::Init {
-                layout,
-                workers,
-                nodes,
-            } => write!(out, "init layout {layout} workers {workers} nodes {nodes}"),
+            Request::Init { workers, nodes } => {
+                write!(out, "init workers {workers} nodes {nodes}")
+            }
             Request::Start { worker, call } => {
                 let Start {
                     operation,
@@ -160,8 +157,8 @@ pub fn call_key(rng: &mut Rng) -> u16 {
 
 /// Lengths of calls: mostly one that this start may carry, else at an edge of the range, where it
 /// ends with the key, or any.
-pub fn call_length(rng: &mut Rng, layout: u16, operation: u16, key: u16) -> u16 {
-    let has_length = layout == LAYOUT_2 && operation == ADD;
+pub fn call_length(rng: &mut Rng, operation: u16, key: u16) -> u16 {
+    let has_length = operation == ADD;
     let last = TAIL_KEY - key;
     match rng.range(0, 9) {
         0..=4 if has_length => rng.word(1, 20).min(last),
@@ -189,8 +186,7 @@ fn start_worker(rng: &mut Rng, arenas: &Arenas) -> u16 {
 pub fn start(rng: &mut Rng, arenas: &Arenas) -> Request {
     let operation = *rng.pick(&[0, ADD, ADD, ADD, REMOVE, REMOVE, CONTAINS, 4]);
     let key = call_key(rng);
-    let layout = arenas.words.first().copied().unwrap_or(0);
-    let length = call_length(rng, layout, operation, key);
+    let length = call_length(rng, operation, key);
     Request::Start {
         worker: start_worker(rng, arenas),
         call: Start {
@@ -260,15 +256,16 @@ fn counts(rng: &mut Rng) -> (u16, u16) {
     (workers, nodes)
 }
 
-/// A number of words about as large as this shape needs, or the same counts in the other layout.
-fn arena_length(rng: &mut Rng, shape: Shape) -> usize {
+/// A number of words about as large as these counts need, or as they needed in the old layout.
+fn arena_length(rng: &mut Rng, workers: u16, nodes: u16) -> usize {
+    let shape = Shape { workers, nodes };
     // Counts far outside the ranges need no arena that fits them.
-    let words = |layout| Shape { layout, ..shape }.total().min(2 * MAX_WORDS);
-    let needed = words(shape.layout);
+    let needed = shape.total().min(2 * MAX_WORDS);
+    let old = shape.in_layout::<LAYOUT_1>().total();
     match rng.range(0, 9) {
         0..=3 => needed,
         4..=6 => needed + rng.index(9),
-        7 => *rng.pick(&LAYOUTS.map(words)),
+        7 => old.min(needed),
         8 => needed - 1,
         _ => rng.index(needed),
     }
@@ -277,21 +274,8 @@ fn arena_length(rng: &mut Rng, shape: Shape) -> usize {
 /// Gives the request with the length of the arena for it.
 pub fn init(rng: &mut Rng) -> (usize, Request) {
     let (workers, nodes) = counts(rng);
-    let layout = match rng.range(0, 9) {
-        0 => *rng.pick(&[0, 3, 4, 257, 65_535]),
-        other => LAYOUTS[other as usize % 2],
-    };
-    let shape = Shape {
-        layout,
-        workers,
-        nodes,
-    };
-    let request = Request::Init {
-        layout,
-        workers,
-        nodes,
-    };
-    (arena_length(rng, shape), request)
+    let request = Request::Init { workers, nodes };
+    (arena_length(rng, workers, nodes), request)
 }
 
 /// Gives the request with the length of the arena for it.
@@ -301,12 +285,7 @@ pub fn run(rng: &mut Rng) -> (usize, Request) {
     let needed = schedules::needed(&schedule);
     let history_length = schedules::row_length(rng, needed.calls, CALL_WORDS);
     let waits_length = schedules::row_length(rng, needed.waits, WAIT_WORDS);
-    let shape = Shape {
-        layout: LAYOUT_2,
-        workers,
-        nodes,
-    };
-    let length = arena_length(rng, shape);
+    let length = arena_length(rng, workers, nodes);
     let request = Request::Run {
         workers,
         nodes,

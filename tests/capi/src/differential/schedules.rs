@@ -66,7 +66,7 @@ impl Style {
             let length = if rng.chance(90) {
                 u16::from(act == ADD) * rng.word(1, 9).min(TAIL_KEY - key)
             } else {
-                call_length(rng, LAYOUT_2, act, key)
+                call_length(rng, act, key)
             };
             words.extend([worker, act, key, length]);
         }

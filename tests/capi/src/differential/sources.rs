@@ -8,6 +8,7 @@ use model::turn::turn;
 use super::arenas::Kind;
 use super::chain::{Chain, End};
 use super::damaged::break_at_mark;
+use super::layouts::old_words;
 use super::placed::{some_mark, words_past_total};
 use super::spread::any_length;
 
@@ -17,6 +18,8 @@ pub struct Source {
     pub is_reached: bool,
 }
 
+/// How many come out of the old layout.
+const PERCENT_OLD: u64 = 50;
 /// A turn for each worker, so often that every call has ended.
 const MOST_ROUNDS: u32 = 20_000;
 
@@ -28,19 +31,21 @@ pub fn source(rng: &mut Rng, kind: Kind, words: &[u16]) -> Source {
     };
     // Large ones take many turns.
     let percent_ended = if kind == Kind::LargeReached { 5 } else { 35 };
-    if kind.is_reached() && rng.chance(percent_ended) {
+    let is_ended = kind.is_reached() && rng.chance(percent_ended);
+    let is_as_found = !is_ended && rng.chance(7);
+    if is_ended {
         end_calls(&mut words, shape);
-        let is_reached = true;
-        return Source { words, is_reached };
-    }
-    let is_as_found = rng.chance(7);
-    if !is_as_found {
+    } else if !is_as_found {
         change(rng, &mut words, shape);
     }
-    Source {
-        words,
-        is_reached: is_as_found && kind.is_reached(),
+    if rng.chance(PERCENT_OLD) {
+        words = old_words(&words);
     }
+    if !is_ended && !is_as_found {
+        change_length(rng, &mut words);
+    }
+    let is_reached = kind.is_reached() && (is_ended || is_as_found);
+    Source { words, is_reached }
 }
 
 /// Gives each worker turns until all are idle: of those that are busy, one does not wait.
@@ -60,7 +65,7 @@ fn end_calls(words: &mut [u16], shape: Shape) {
     panic!("calls end");
 }
 
-fn change(rng: &mut Rng, words: &mut Vec<u16>, shape: Shape) {
+fn change(rng: &mut Rng, words: &mut [u16], shape: Shape) {
     rest(rng, words, shape);
     if rng.chance(30) {
         spoil_idle_record(rng, words, shape);
@@ -74,7 +79,7 @@ fn change(rng: &mut Rng, words: &mut Vec<u16>, shape: Shape) {
     if rng.chance(60) {
         spoil_others(rng, words, shape);
     }
-    if shape.layout == LAYOUT_2 && rng.chance(85) {
+    if rng.chance(85) {
         shorten_labels(rng, words);
     }
     match rng.range(0, 99) {
@@ -82,8 +87,11 @@ fn change(rng: &mut Rng, words: &mut Vec<u16>, shape: Shape) {
         4..=9 => break_chain(rng, words),
         _ => {}
     }
+}
+
+fn change_length(rng: &mut Rng, words: &mut Vec<u16>) {
     match rng.range(0, 49) {
-        0 => words.truncate(shape.total() - 1),
+        0 => words.truncate(usize::from(words[5]) - 1),
         1 => words.truncate(rng.index(HEADER_WORDS)),
         2..=9 => words_past_total(rng, words),
         _ => {}
@@ -150,7 +158,7 @@ fn spoil_others(rng: &mut Rng, words: &mut [u16], shape: Shape) {
     let chain = Chain::of(words).expect("a good header so far");
     let row = chain.row_of(&chain.nodes);
     for (node, is_on_chain) in (0..).zip(row) {
-        let record = &mut words[shape.node_at(node)..][..shape.node_words()];
+        let record = &mut words[shape.node_at(node)..][..NODE_WORDS];
         if !is_on_chain && node != HEAD && rng.chance(60) {
             record.fill_with(|| rng.word(0, 65_535));
             record[MARK] *= rng.word(0, 1);

@@ -3,6 +3,7 @@
 use super::arenas::Kind;
 use super::coverage::Coverage;
 use super::met::Met;
+use super::refused_old::RefusedOld;
 
 const MAX_PRINTED: usize = 10;
 
@@ -11,6 +12,7 @@ pub struct Tally {
     arenas: [u64; Kind::ALL.len()],
     comparisons: [u64; Kind::ALL.len()],
     pub coverage: Coverage,
+    pub refused_old: RefusedOld,
     pub met: Met,
     pub passed: u64,
     pub failed: u64,
@@ -50,6 +52,7 @@ impl Tally {
             self.comparisons[kind] += other.comparisons[kind];
         }
         self.coverage.merge(&other.coverage);
+        self.refused_old.merge(&other.refused_old);
         self.met.merge(&other.met);
         self.passed += other.passed;
         self.failed += other.failed;
@@ -80,6 +83,7 @@ impl Tally {
         let comparisons: u64 = self.comparisons.iter().sum();
         println!("  {:35} {arenas:10} {comparisons:11}", "all");
         good.extend(self.coverage.print_and_check());
+        good.extend(self.refused_old.print_and_check());
         good.extend(self.met.print_and_check());
         for line in good {
             self.check(line);

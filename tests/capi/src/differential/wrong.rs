@@ -11,6 +11,8 @@ use super::wrong_free_replies::*;
 use super::wrong_free_runs::*;
 use super::wrong_lengths::*;
 use super::wrong_library::*;
+use super::wrong_old;
+use super::wrong_old_orders;
 use super::wrong_others::*;
 use super::wrong_runs::*;
 use super::wrong_searches::*;
@@ -21,19 +23,15 @@ use super::Comparison;
 /// Arenas that a wrong library gets at most.
 const COUNT: u64 = 50_000;
 
-static WRONG: [Wrong; 233] = [
+static WRONG: [Wrong; 210] = [
     wrong_init("init writes a word past the total", init_past_total),
-    wrong_init("init wants layout 2's words for both", init_more_words),
-    wrong_init("init writes the other's total", init_other_total),
-    wrong_init("init takes layout 3", init_layout_3),
-    wrong_init("init: short arena before the layout", init_words_first),
+    wrong_init("init writes layout 1's total", init_old_total),
     wrong_init("init leaves the lengths", init_keeps_lengths),
     wrong_init("init leaves the old count", init_keeps_count),
     wrong_init("init counts Head and Tail", init_counts_ends),
     wrong_start("start writes a word too many", start_too_long),
     wrong_start("start: bad call before busy", start_bad_call_first),
     wrong_start("start: bad length before busy", start_bad_length_first),
-    wrong_start("start: layout 1 takes a length", start_length_in_1),
     wrong_start("start: a remove takes a length", start_remove_length),
     wrong_start("start: a contains takes a length", start_contains_length),
     wrong_start("start: an add takes length 0", start_no_length),
@@ -43,16 +41,13 @@ static WRONG: [Wrong; 233] = [
     wrong_start("start forgets the length", start_forgets_length),
     wrong_start("start takes any count", start_any_count),
     wrong_start("start wants the set's count", start_count_of_set),
-    wrong_turn("turn: four words to a node in layout 2", turn_narrow),
-    wrong_turn("turn: five words to a node in layout 1", turn_wide),
+    wrong_turn("turn: four words to a node", turn_narrow),
     wrong_turn("turn at 14 searches by four words", turn_narrow_search),
-    wrong_turn("turn: the other's total is good too", turn_other_total),
+    wrong_turn("turn: layout 1's total is good too", turn_old_total),
     wrong_turn("turn: layout 3 is layout 2", turn_layout_3),
-    wrong_turn("turn: layout 0 is layout 1", turn_layout_0),
     wrong_turn("turn at 14 leaves the length out", turn_no_length),
     wrong_turn("turn at 14 writes the key as length", turn_key_for_length),
     wrong_turn("turn at 14 writes worker 0's length", turn_first_length),
-    wrong_turn("turn at 14 writes lengths in layout 1", turn_length_in_1),
     wrong_turn("turn at 14 refuses a bad length", turn_refuses_length),
     wrong_turn("turn at 16 clears the length", turn_clears_length),
     wrong_turn("turn at 21 leaves the eighth word", turn_leaves_length),
@@ -79,14 +74,11 @@ static WRONG: [Wrong; 233] = [
     wrong_turn("turn takes a count of N less 1", turn_count_below_nodes),
     wrong_turn("turn takes no count of N less 2", turn_count_below_most),
     wrong_turn("turn takes count 0 alone", turn_count_0),
-    wrong_turn("turn takes any word 6 in layout 1", turn_any_word_in_1),
-    wrong_turn("turn takes N less 2 in layout 1", turn_bound_in_1),
     wrong_turn("turn wants the set's count", turn_count_of_set),
     wrong_turn("turn never counts", turn_never_counts),
     wrong_turn("turn counts a label at 14", turn_counts_at_14),
     wrong_turn("turn counts a label out at 18", turn_counts_at_18),
     wrong_turn("turn counts a label out twice", turn_counts_down_twice),
-    wrong_turn("turn counts in layout 1", turn_counts_in_1),
     wrong_turn("turn counts no label out", turn_counts_up_alone),
     wrong_turn("turn counts no label in", turn_counts_down_alone),
     wrong_turn("turn counts the set anew", turn_counts_anew),
@@ -99,7 +91,6 @@ static WRONG: [Wrong; 233] = [
     wrong_turn("turn: 14 from the first stage on", turn_14_at_once),
     wrong_turn("turn: 14 before 6", turn_14_before_6),
     wrong_turn("turn: 14 before 7", turn_14_before_7),
-    wrong_turn("turn: 14 in layout 1", turn_14_in_1),
     wrong_turn("turn: 14 on any count but the set's", turn_14_by_set),
     wrong_turn("turn refused 14 writes", turn_14_writes),
     wrong_snapshot("snapshot skips the last key", snapshot_skips),
@@ -216,11 +207,7 @@ static WRONG: [Wrong; 233] = [
     wrong_longest("free run: no check of a marked key", longest_marked_key),
     wrong_longest("free run: forgets a marked key", longest_last_label),
     wrong_longest("free run: ignores marked keys", longest_no_marked_keys),
-    wrong_longest("free run: 13 before 7", longest_5_13_7),
-    wrong_longest("free run: 7 before 5", longest_7_5_13),
-    wrong_longest("free run: 5 last", longest_7_13_5),
-    wrong_longest("free run: 13 before 5", longest_13_5_7),
-    wrong_longest("free run: 13, 7, 5", longest_13_7_5),
+    wrong_longest("free run: 7 before 5", longest_7_before_5),
     wrong_longest("free run: 5 before all", longest_5_first),
     wrong_longest("free run: 5 before 2", longest_5_before_2),
     wrong_longest(
@@ -235,19 +222,6 @@ static WRONG: [Wrong; 233] = [
     wrong_longest("free run: takes M 65,535", longest_takes_65535),
     wrong_longest("free run: refuses M 1", longest_refuses_1),
     wrong_longest("free run: refuses M 65,534", longest_refuses_65534),
-    wrong_longest("free run: layout 1 has lengths of 0", longest_answers_in_1),
-    wrong_longest(
-        "free run: answers in layout 1 where no label is",
-        longest_empty_in_1,
-    ),
-    wrong_longest(
-        "free run: five words to a node in layout 1",
-        longest_wide_in_1,
-    ),
-    wrong_longest(
-        "free run: 13 where no label has a length",
-        longest_13_by_lengths,
-    ),
     wrong_longest(
         "free run: refuses lengths no add has",
         longest_refuses_length,
@@ -268,10 +242,6 @@ static WRONG: [Wrong; 233] = [
     wrong_longest("free run: wants the set's count", longest_count_of_set),
     wrong_stored("stored walks the chain", stored_walks),
     wrong_stored("stored tells 0", stored_0),
-    wrong_stored("stored tells 0 in layout 1", stored_0_in_1),
-    wrong_stored("stored walks the chain in layout 1", stored_walks_in_1),
-    wrong_stored("stored refuses layout 1 with 13", stored_13_in_1),
-    wrong_stored("stored refuses layout 1 with 2", stored_2_in_1),
     wrong_stored("stored tells the second value", stored_second),
     wrong_stored("stored has a report", stored_reports),
     wrong_stored("stored refuses a broken chain", stored_7),
@@ -333,7 +303,8 @@ pub fn check_all(seed: u64) -> Vec<bool> {
         .chain(wrong_conversion_refusals::all())
         .chain(wrong_conversion_words::all())
         .chain(wrong_conversion_lengths::all());
-    for library in WRONG.iter().chain(converters) {
+    let old = wrong_old::all().chain(wrong_old_orders::all());
+    for library in WRONG.iter().chain(converters).chain(old) {
         let name = library.name;
         let told = first_mismatch(library);
         match told {

@@ -3,8 +3,10 @@
 
 use model::arena::*;
 
+use super::layouts::AnyShape;
 use super::wrong_conversions::*;
 use super::wrong_library::{wrong_to_1, wrong_to_2, Wrong};
+use super::wrong_old::odd_as_12;
 use super::wrong_turns::header_first;
 
 pub fn all() -> impl Iterator<Item = &'static Wrong> {
@@ -30,7 +32,7 @@ const fn takes(header: fn(&[u16], u16) -> Result<Vec<u16>, u16>) -> Converter {
     }
 }
 
-static ON_BOTH_WAYS: [[Wrong; 2]; 28] = [
+static ON_BOTH_WAYS: [[Wrong; 2]; 30] = [
     both!(
         "judges 4 before 6",
         order([busy, broken_record, broken_chain, no_room, bad_length])
@@ -109,16 +111,30 @@ static ON_BOTH_WAYS: [[Wrong; 2]; 28] = [
         "takes the wrong layout",
         Converter {
             edit: copy_same_layout,
-            ..takes(|source, _| check_header(source).map(|_| source.to_vec()))
+            ..takes(|source, _| AnyShape::check(source).map(|_| source.to_vec()))
         }
     ),
     both!(
         "is refused 12 for the wrong layout",
-        takes(|source, layout| other_layout_is(source, layout, 12))
+        takes(|source, layout| other_layout_is(source, layout, OLD_LAYOUT))
     ),
     both!(
-        "is refused 13 for the wrong layout",
-        takes(|source, layout| other_layout_is(source, layout, LENGTHS_MISSING))
+        "is refused 12 for an odd old header",
+        takes(|source, layout| match odd_as_12(source) {
+            Some(_) => Err(OLD_LAYOUT),
+            None => header(source, layout),
+        })
+    ),
+    both!(
+        "is refused 12 for layout 1",
+        takes(|source, layout| match check_header(source) {
+            Err(OLD_LAYOUT) => Err(OLD_LAYOUT),
+            _ => header(source, layout),
+        })
+    ),
+    both!(
+        "is refused 2 for either layout",
+        takes(|source, _| AnyShape::check(source).and(Err(ODD_HEADER)))
     ),
     both!(
         "is refused 10 for the wrong layout",
@@ -132,7 +148,7 @@ static ON_BOTH_WAYS: [[Wrong; 2]; 28] = [
     both!(
         "judges the wrong layout before 1",
         takes(|source, layout| match source.first() {
-            Some(&first) if LAYOUTS.contains(&first) && first != layout => Err(ODD_HEADER),
+            Some(&first) if first == LAYOUT_1 + LAYOUT_2 - layout => Err(ODD_HEADER),
             _ => header(source, layout),
         })
     ),
@@ -140,7 +156,7 @@ static ON_BOTH_WAYS: [[Wrong; 2]; 28] = [
         "judges the wrong layout after 8",
         Converter {
             tests: [broken_record, busy, broken_chain, no_room, same_layout],
-            ..takes(|source, _| check_header(source).map(|_| source.to_vec()))
+            ..takes(|source, _| AnyShape::check(source).map(|_| source.to_vec()))
         }
     ),
     both!(
@@ -173,12 +189,8 @@ static TO_2: [Wrong; 3] = [
         "to_layout_2 wants as many words as layout 2 takes",
         takes(|source, layout| {
             let words = header(source, layout)?;
-            let shape = check_header(source)?;
-            let new_shape = Shape {
-                layout: LAYOUT_2,
-                ..shape
-            };
-            if words.len() < new_shape.total() {
+            let shape = AnyShape::check(source)?;
+            if words.len() < shape.other().total() {
                 Err(SHORT_ARENA)
             } else {
                 Ok(words)
@@ -249,7 +261,7 @@ fn any_owned(case: &Case) -> Option<u16> {
 }
 
 fn other_layout_is(source: &[u16], layout: u16, refusal: u16) -> Result<Vec<u16>, u16> {
-    match check_header(source) {
+    match AnyShape::check(source) {
         Ok(shape) if shape.layout != layout => Err(refusal),
         _ => header(source, layout),
     }

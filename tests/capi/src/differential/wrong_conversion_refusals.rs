@@ -308,7 +308,7 @@ static TO_1: [Wrong; 9] = [
 
 /// A walk that does not check something at marked nodes.
 fn walked(case: &Case, walk: Walk) -> Option<u16> {
-    walk.go(case.source).err()
+    walk.go_in(case.source, case.shape).err()
 }
 
 /// 8 for a short target, or fewer lengths than these.

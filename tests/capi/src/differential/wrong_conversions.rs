@@ -3,6 +3,7 @@
 use model::arena::*;
 
 use super::chain::{Chain, End};
+use super::layouts::AnyShape;
 
 /// What a converter is given, behind the test of its source's header.
 pub struct Case<'a> {
@@ -12,7 +13,7 @@ pub struct Case<'a> {
     pub lengths: Option<&'a [u16]>,
     /// What the target holds before.
     pub target: &'a [u16],
-    pub shape: Shape,
+    pub shape: AnyShape,
     pub chain: Chain<'a>,
 }
 
@@ -21,8 +22,8 @@ impl Case<'_> {
         self.lengths.is_some()
     }
 
-    pub fn new_shape(&self) -> Shape {
-        Shape {
+    pub fn new_shape(&self) -> AnyShape {
+        AnyShape {
             layout: if self.is_to_2() { LAYOUT_2 } else { LAYOUT_1 },
             ..self.shape
         }
@@ -164,7 +165,7 @@ pub const RIGHT_TO_1: Converter = Converter {
 };
 
 pub fn header(source: &[u16], layout: u16) -> Result<Vec<u16>, u16> {
-    let shape = check_header(source)?;
+    let shape = AnyShape::check(source)?;
     if shape.layout == layout {
         Ok(source.to_vec())
     } else {
@@ -198,7 +199,7 @@ impl Converter {
             Err(refusal) => return refusal.into(),
         };
         let before = target.to_vec();
-        let chain = Chain::of(&source).expect("a header that was taken");
+        let chain = Chain::of_any(&source).expect("a header that was taken");
         let case = Case {
             converter: self,
             source: &source,

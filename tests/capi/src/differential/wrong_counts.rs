@@ -38,10 +38,6 @@ impl Step<'_> {
     fn counts(&self) -> bool {
         self.is_accepted() && matches!(self.stage, 15 | 16)
     }
-
-    fn is_in_2(&self) -> bool {
-        self.shape.layout == LAYOUT_2
-    }
 }
 
 /// How turns count, for faults with it.
@@ -57,15 +53,11 @@ struct Counting {
 }
 
 fn is_refused(step: &Step) -> bool {
-    step.is_in_2() && step.counts() && step.is_at_end()
+    step.counts() && step.is_at_end()
 }
 
 fn change(step: &Step) -> i16 {
-    if step.is_in_2() {
-        change_at(step, 15, 16)
-    } else {
-        0
-    }
+    change_at(step, 15, 16)
 }
 
 /// One more by the turn at one stage, one less by that at another.
@@ -91,7 +83,7 @@ fn shape_but_count(arena: &[u16]) -> Option<Shape> {
 /// The model's turn on a count that is not at its end for this stage; the count stays as it is.
 fn on_other_count(arena: &mut [u16], worker: u16, stage: u16) -> u64 {
     let count = arena[COUNT];
-    arena[COUNT] = u16::from(arena[0] == LAYOUT_2 && stage == 16);
+    arena[COUNT] = u16::from(stage == 16);
     let reply = Model.turn(arena, worker);
     arena[COUNT] = count;
     reply
@@ -148,15 +140,11 @@ fn taken_by(arena: &mut [u16], worker: u16, takes: fn(Shape, u16) -> bool) -> u6
 }
 
 pub fn turn_any_count(arena: &mut [u16], worker: u16) -> u64 {
-    taken_by(arena, worker, |shape, count| {
-        shape.layout == LAYOUT_2 || count == 0
-    })
+    taken_by(arena, worker, |_, _| true)
 }
 
 pub fn turn_count_below_nodes(arena: &mut [u16], worker: u16) -> u64 {
-    taken_by(arena, worker, |shape, count| {
-        count == 0 || (shape.layout == LAYOUT_2 && count < shape.nodes)
-    })
+    taken_by(arena, worker, |shape, count| count < shape.nodes)
 }
 
 pub fn turn_count_below_most(arena: &mut [u16], worker: u16) -> u64 {
@@ -168,16 +156,6 @@ pub fn turn_count_below_most(arena: &mut [u16], worker: u16) -> u64 {
 /// As it was before document 02's request.
 pub fn turn_count_0(arena: &mut [u16], worker: u16) -> u64 {
     taken_by(arena, worker, |_, count| count == 0)
-}
-
-pub fn turn_any_word_in_1(arena: &mut [u16], worker: u16) -> u64 {
-    taken_by(arena, worker, |shape, count| {
-        shape.layout == LAYOUT_1 || count <= shape.max_count()
-    })
-}
-
-pub fn turn_bound_in_1(arena: &mut [u16], worker: u16) -> u64 {
-    taken_by(arena, worker, |shape, count| count <= shape.nodes - 2)
 }
 
 /// A turn that counts otherwise.
@@ -199,27 +177,20 @@ pub fn turn_counts_at_14(arena: &mut [u16], worker: u16) -> u64 {
         if step.stage == 14 && step.reply != moved(15) {
             0
         } else {
-            i16::from(step.is_in_2()) * change_at(step, 14, 16)
+            change_at(step, 14, 16)
         }
     })
 }
 
 /// When the node is off the chain, and not when it is marked.
 pub fn turn_counts_at_18(arena: &mut [u16], worker: u16) -> u64 {
-    changed_by(arena, worker, |step| {
-        i16::from(step.is_in_2()) * change_at(step, 15, 18)
-    })
+    changed_by(arena, worker, |step| change_at(step, 15, 18))
 }
 
 pub fn turn_counts_down_twice(arena: &mut [u16], worker: u16) -> u64 {
     changed_by(arena, worker, |step| {
-        let again = i16::from(step.is_in_2() && step.stage == 18);
-        change(step) - again
+        change(step) - i16::from(step.stage == 18)
     })
-}
-
-pub fn turn_counts_in_1(arena: &mut [u16], worker: u16) -> u64 {
-    changed_by(arena, worker, |step| change_at(step, 15, 16))
 }
 
 pub fn turn_counts_up_alone(arena: &mut [u16], worker: u16) -> u64 {
@@ -281,14 +252,14 @@ pub fn turn_14_by_nodes(arena: &mut [u16], worker: u16) -> u64 {
 pub fn turn_14_early(arena: &mut [u16], worker: u16) -> u64 {
     refused_by(arena, worker, |step| {
         let is_next = step.count == step.shape.nodes - 3;
-        is_refused(step) || (step.is_in_2() && step.counts() && step.stage == 15 && is_next)
+        is_refused(step) || (step.counts() && step.stage == 15 && is_next)
     })
 }
 
 pub fn turn_14_at_14(arena: &mut [u16], worker: u16) -> u64 {
     refused_by(arena, worker, |step| {
         let takes_node = step.stage == 14 && step.reply == moved(15);
-        is_refused(step) || (step.is_in_2() && takes_node && step.is_most())
+        is_refused(step) || (takes_node && step.is_most())
     })
 }
 
@@ -296,13 +267,13 @@ pub fn turn_14_at_14(arena: &mut [u16], worker: u16) -> u64 {
 pub fn turn_14_at_once(arena: &mut [u16], worker: u16) -> u64 {
     refused_by(arena, worker, |step| {
         let is_busy = (1..=16).contains(&step.stage) && step.is_accepted();
-        step.is_in_2() && is_busy && step.is_at_end()
+        is_busy && step.is_at_end()
     })
 }
 
-/// Whether a turn of layout 2 that is to be refused with this number has a count at its end.
+/// Whether a turn that is to be refused with this number has a count at its end.
 fn before(step: &Step, refusal: u16) -> bool {
-    step.is_in_2() && step.reply == u64::from(refusal) && step.is_at_end()
+    step.reply == u64::from(refusal) && step.is_at_end()
 }
 
 pub fn turn_14_before_6(arena: &mut [u16], worker: u16) -> u64 {
@@ -319,15 +290,11 @@ pub fn turn_14_before_7(arena: &mut [u16], worker: u16) -> u64 {
     })
 }
 
-pub fn turn_14_in_1(arena: &mut [u16], worker: u16) -> u64 {
-    refused_by(arena, worker, |step| step.counts() && step.is_at_end())
-}
-
 /// Right on every arena that is reached from a fresh one.
 pub fn turn_14_by_set(arena: &mut [u16], worker: u16) -> u64 {
     refused_by(arena, worker, |step| {
         let is_wrong = step.count != set(step.before).len() as u16;
-        is_refused(step) || (step.is_in_2() && step.counts() && is_wrong)
+        is_refused(step) || (step.counts() && is_wrong)
     })
 }
 

@@ -4,7 +4,6 @@
 use model::arena::*;
 
 use super::chain::Chain;
-use super::wrong_lengths::as_other;
 use super::wrong_turns::header_first;
 use crate::library::{Library, Model, Values, MOVED};
 
@@ -84,40 +83,12 @@ fn is_bad(last_cell: u16) -> bool {
     last_cell == 0 || last_cell == 65_535
 }
 
-/// A reply in which the refusals behind 1 and 2 have another order.
-fn by_order(arena: &[u16], last_cell: u16, order: [u16; 3]) -> u64 {
-    let Ok(shape) = check_header(arena) else {
-        return right(arena, last_cell);
-    };
-    let applies = |refusal: &u16| match *refusal {
-        BAD_CALL => is_bad(last_cell),
-        BROKEN_CHAIN => snapshot(arena, &mut [0; MAX_NODES as usize]).is_err(),
-        _ => shape.layout == LAYOUT_1,
-    };
-    match order.into_iter().find(applies) {
-        Some(refusal) => u64::from(refusal),
-        None => right(arena, last_cell),
+pub fn longest_7_before_5(arena: &[u16], last_cell: u16) -> u64 {
+    let is_broken = snapshot(arena, &mut [0; MAX_NODES as usize]) == Err(BROKEN_CHAIN);
+    match right(arena, last_cell) {
+        reply if reply == u64::from(BAD_CALL) && is_broken => u64::from(BROKEN_CHAIN),
+        reply => reply,
     }
-}
-
-pub fn longest_5_13_7(arena: &[u16], last_cell: u16) -> u64 {
-    by_order(arena, last_cell, [BAD_CALL, LENGTHS_MISSING, BROKEN_CHAIN])
-}
-
-pub fn longest_7_5_13(arena: &[u16], last_cell: u16) -> u64 {
-    by_order(arena, last_cell, [BROKEN_CHAIN, BAD_CALL, LENGTHS_MISSING])
-}
-
-pub fn longest_7_13_5(arena: &[u16], last_cell: u16) -> u64 {
-    by_order(arena, last_cell, [BROKEN_CHAIN, LENGTHS_MISSING, BAD_CALL])
-}
-
-pub fn longest_13_5_7(arena: &[u16], last_cell: u16) -> u64 {
-    by_order(arena, last_cell, [LENGTHS_MISSING, BAD_CALL, BROKEN_CHAIN])
-}
-
-pub fn longest_13_7_5(arena: &[u16], last_cell: u16) -> u64 {
-    by_order(arena, last_cell, [LENGTHS_MISSING, BROKEN_CHAIN, BAD_CALL])
 }
 
 pub fn longest_5_first(arena: &[u16], last_cell: u16) -> u64 {
@@ -172,30 +143,6 @@ pub fn longest_refuses_65534(arena: &[u16], last_cell: u16) -> u64 {
     right(arena, instead)
 }
 
-/// Lengths are 0 there, so every cell is free.
-pub fn longest_answers_in_1(arena: &[u16], last_cell: u16) -> u64 {
-    let reply = right(arena, last_cell);
-    if reply == u64::from(LENGTHS_MISSING) {
-        return told(1, last_cell).number();
-    }
-    reply
-}
-
-/// Right unless a label is stored.
-pub fn longest_empty_in_1(arena: &[u16], last_cell: u16) -> u64 {
-    if set(arena).is_empty() {
-        return longest_answers_in_1(arena, last_cell);
-    }
-    right(arena, last_cell)
-}
-
-/// As if it had the words of layout 2.
-pub fn longest_wide_in_1(arena: &[u16], last_cell: u16) -> u64 {
-    as_other(&mut arena.to_vec(), LAYOUT_1, |arena| {
-        right(arena, last_cell)
-    })
-}
-
 /// A search that refuses some arenas which are to be answered.
 fn refuses(
     arena: &[u16],
@@ -210,17 +157,10 @@ fn refuses(
     }
 }
 
-/// In layout 2, where no label has a length.
-pub fn longest_13_by_lengths(arena: &[u16], last_cell: u16) -> u64 {
-    refuses(arena, last_cell, LENGTHS_MISSING, |_| {
-        set(arena).iter().all(|label| label.length == 0)
-    })
-}
-
 /// Right on every arena that is reached from a fresh one, as the next four.
 pub fn longest_refuses_length(arena: &[u16], last_cell: u16) -> u64 {
     refuses(arena, last_cell, BAD_CALL, |_| {
-        let is_good = |label: &Label| is_call_length(LAYOUT_2, ADD, label.key, label.length);
+        let is_good = |label: &Label| is_call_length(ADD, label.key, label.length);
         !set(arena).iter().all(is_good)
     })
 }
@@ -299,7 +239,7 @@ pub fn longest_head_key(arena: &[u16], last_cell: u16) -> u64 {
 
 pub fn longest_owner_for_length(arena: &[u16], last_cell: u16) -> u64 {
     changed(arena, last_cell, |words, chain| {
-        for &node in chain.nodes.iter().filter(|_| arena[0] == LAYOUT_2) {
+        for &node in &chain.nodes {
             let at = chain.shape.node_at(node);
             words[at + LENGTH] = words[at + OWNER];
         }

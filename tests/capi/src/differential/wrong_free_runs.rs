@@ -42,15 +42,11 @@ const RIGHT_PASS: Pass = Pass {
 
 /// The labels of the set, if nothing is to be refused.
 fn judged(walk: Walk, arena: &[u16], last_cell: u16) -> Result<Vec<Label>, u16> {
-    let shape = check_header(arena)?;
+    check_header(arena)?;
     if last_cell == 0 || last_cell > MAX_LAST_CELL {
         return Err(BAD_CALL);
     }
-    let found = walk.go(arena)?;
-    if shape.layout == LAYOUT_1 {
-        return Err(LENGTHS_MISSING);
-    }
-    Ok(found.listed)
+    walk.go(arena).map(|found| found.listed)
 }
 
 impl Pass {
@@ -184,7 +180,7 @@ pub fn longest_short_sum(arena: &[u16], last_cell: u16) -> u64 {
 
 pub fn longest_good_lengths(arena: &[u16], last_cell: u16) -> u64 {
     cells_by(arena, last_cell, |label, _| {
-        if is_call_length(LAYOUT_2, ADD, label.key, label.length) {
+        if is_call_length(ADD, label.key, label.length) {
             cells_of(label)
         } else {
             0..0
@@ -293,7 +289,7 @@ pub fn longest_two_cells(arena: &[u16], last_cell: u16) -> u64 {
 fn with_end(arena: &[u16], last_cell: u16, end: u16) -> u64 {
     match (judged(RIGHT_WALK, arena, last_cell), check_header(arena)) {
         (Ok(mut labels), Ok(shape)) => {
-            labels.push(Label::read(arena, shape, shape.node_at(end)));
+            labels.push(Label::read(arena, shape.node_at(end)));
             labels.sort_by_key(|label| label.key);
             RIGHT_PASS.longest(&labels, last_cell)
         }

@@ -3,8 +3,8 @@
 use super::wrong_conversions::Converter;
 use crate::library::{Library, Model, Run, Start};
 
-/// An arena, layout, workers and nodes.
-pub type Init = fn(&mut [u16], u16, u16, u16) -> u64;
+/// An arena, workers and nodes.
+pub type Init = fn(&mut [u16], u16, u16) -> u64;
 
 /// The model with some entry points replaced.
 pub struct Wrong {
@@ -24,7 +24,7 @@ pub struct Wrong {
 
 pub const RIGHT: Wrong = Wrong {
     name: "the model itself",
-    init: |arena, layout, workers, nodes| Model.init(arena, layout, workers, nodes),
+    init: |arena, workers, nodes| Model.init(arena, workers, nodes),
     start: |arena, worker, call| Model.start(arena, worker, call),
     turn: |arena, worker| Model.turn(arena, worker),
     snapshot: |arena, keys| Model.snapshot(arena, keys),
@@ -113,8 +113,8 @@ pub const fn wrong_run(name: &'static str, run: fn(Run) -> u64) -> Wrong {
 }
 
 impl Library for Wrong {
-    fn init(&self, arena: &mut [u16], layout: u16, workers: u16, nodes: u16) -> u64 {
-        (self.init)(arena, layout, workers, nodes)
+    fn init(&self, arena: &mut [u16], workers: u16, nodes: u16) -> u64 {
+        (self.init)(arena, workers, nodes)
     }
 
     fn start(&self, arena: &mut [u16], worker: u16, call: Start) -> u64 {

@@ -2,14 +2,15 @@
 
 use model::arena::*;
 
+use super::layouts::AnyShape;
 use crate::library::{Library, Model, Start};
 
 const ACCEPTED: u64 = 0;
 /// Of a snapshot's count, which is the first value.
 const ONE_KEY: u64 = 1 << 16;
 
-pub fn init_past_total(arena: &mut [u16], layout: u16, workers: u16, nodes: u16) -> u64 {
-    let reply = Model.init(arena, layout, workers, nodes);
+pub fn init_past_total(arena: &mut [u16], workers: u16, nodes: u16) -> u64 {
+    let reply = Model.init(arena, workers, nodes);
     if reply == ACCEPTED {
         let total = arena[5] as usize;
         if let Some(word) = arena.get_mut(total) {
@@ -104,7 +105,11 @@ pub struct Found {
 
 impl Walk {
     pub fn go(&self, arena: &[u16]) -> Result<Found, u16> {
-        let shape = check_header(arena)?;
+        check_header(arena).and_then(|shape| self.go_in(arena, shape.into()))
+    }
+
+    /// In either layout.
+    pub fn go_in(&self, arena: &[u16], shape: AnyShape) -> Result<Found, u16> {
         let mut found = Found::default();
         let mut at = shape.node_at(HEAD);
         let mut last_key = arena[at + KEY];
@@ -126,7 +131,7 @@ impl Walk {
             if self.keeps_key || !is_marked {
                 last_key = key;
             }
-            found.note(Label::read(arena, shape, at), is_marked);
+            found.note(shape.label(arena, node), is_marked);
         }
     }
 

@@ -6,6 +6,7 @@ use model::arena::*;
 use model::free::{find_free, Found};
 
 use super::roots::{worker_roots, Root, ROOTS};
+use super::wrong_lengths::narrow;
 use super::wrong_turns::{all_roots, header_first, reached};
 use crate::library::{found_values, Library, Model, Values, MOVED};
 
@@ -309,34 +310,26 @@ pub fn free_few_links(arena: &[u16]) -> u64 {
     links_by(arena, |step| step.count < 1_000)
 }
 
-/// A search as if the arena had another shape, in which it fits.
-fn as_if(arena: &[u16], other: impl Fn(Shape) -> Shape) -> u64 {
-    match check_header(arena) {
-        Ok(shape) => RIGHT_SEARCH.find(arena, other(shape)),
-        Err(refusal) => u64::from(refusal),
-    }
-}
-
 pub fn free_narrow(arena: &[u16]) -> u64 {
-    as_if(arena, |shape| Shape {
-        layout: LAYOUT_1,
-        ..shape
-    })
+    narrow(&mut arena.to_vec(), |arena| Model.find_free(arena))
 }
 
 /// Node N less 1 is out of range.
 pub fn free_last_node(arena: &[u16]) -> u64 {
-    as_if(arena, |shape| Shape {
-        nodes: shape.nodes - 1,
-        ..shape
-    })
+    match check_header(arena) {
+        Ok(Shape { workers, nodes }) => {
+            let nodes = nodes - 1;
+            RIGHT_SEARCH.find(arena, Shape { workers, nodes })
+        }
+        Err(refusal) => u64::from(refusal),
+    }
 }
 
 pub fn free_refusals_swapped(arena: &[u16]) -> u64 {
     match check_header(arena) {
         Err(SHORT_ARENA) => u64::from(ODD_HEADER),
-        Err(_) => u64::from(SHORT_ARENA),
-        Ok(_) => Model.find_free(arena),
+        Err(ODD_HEADER) => u64::from(SHORT_ARENA),
+        _ => Model.find_free(arena),
     }
 }
 

@@ -33,42 +33,12 @@ fn size_of_set(arena: &[u16]) -> u16 {
 
 /// Right on every arena that is reached from a fresh one.
 pub fn stored_walks(arena: &[u16]) -> u64 {
-    then(arena, |shape, values| match shape.layout {
-        LAYOUT_2 => count_told(size_of_set(arena)),
-        _ => values.number(),
-    })
+    then(arena, |_, _| count_told(size_of_set(arena)))
 }
 
 /// Right where nothing is stored.
 pub fn stored_0(arena: &[u16]) -> u64 {
-    then(arena, |shape, values| match shape.layout {
-        LAYOUT_2 => count_told(0),
-        _ => values.number(),
-    })
-}
-
-/// Something else where no count is kept.
-fn told_in_1(arena: &[u16], reply: impl Fn() -> u64) -> u64 {
-    then(arena, |shape, values| match shape.layout {
-        LAYOUT_1 => reply(),
-        _ => values.number(),
-    })
-}
-
-pub fn stored_0_in_1(arena: &[u16]) -> u64 {
-    told_in_1(arena, || count_told(arena[COUNT]))
-}
-
-pub fn stored_walks_in_1(arena: &[u16]) -> u64 {
-    told_in_1(arena, || count_told(size_of_set(arena)))
-}
-
-pub fn stored_13_in_1(arena: &[u16]) -> u64 {
-    told_in_1(arena, || u64::from(LENGTHS_MISSING))
-}
-
-pub fn stored_2_in_1(arena: &[u16]) -> u64 {
-    told_in_1(arena, || u64::from(ODD_HEADER))
+    then(arena, |_, _| count_told(0))
 }
 
 pub fn stored_second(arena: &[u16]) -> u64 {
@@ -102,8 +72,8 @@ pub fn stored_7(arena: &[u16]) -> u64 {
 }
 
 pub fn stored_14(arena: &[u16]) -> u64 {
-    then(arena, |shape, values| {
-        if shape.layout == LAYOUT_2 && values.first != size_of_set(arena) {
+    then(arena, |_, values| {
+        if values.first != size_of_set(arena) {
             u64::from(BROKEN_COUNT)
         } else {
             values.number()
@@ -125,9 +95,9 @@ pub fn stored_whole_arena(arena: &[u16]) -> u64 {
     })
 }
 
-pub fn init_keeps_count(arena: &mut [u16], layout: u16, workers: u16, nodes: u16) -> u64 {
+pub fn init_keeps_count(arena: &mut [u16], workers: u16, nodes: u16) -> u64 {
     let old = arena.get(COUNT).copied();
-    let reply = Model.init(arena, layout, workers, nodes);
+    let reply = Model.init(arena, workers, nodes);
     if let (ACCEPTED, Some(old)) = (reply, old) {
         arena[COUNT] = old;
     }
@@ -135,9 +105,9 @@ pub fn init_keeps_count(arena: &mut [u16], layout: u16, workers: u16, nodes: u16
 }
 
 /// Head and Tail are counted too.
-pub fn init_counts_ends(arena: &mut [u16], layout: u16, workers: u16, nodes: u16) -> u64 {
-    let reply = Model.init(arena, layout, workers, nodes);
-    if reply == ACCEPTED && layout == LAYOUT_2 {
+pub fn init_counts_ends(arena: &mut [u16], workers: u16, nodes: u16) -> u64 {
+    let reply = Model.init(arena, workers, nodes);
+    if reply == ACCEPTED {
         arena[COUNT] = 2;
     }
     reply
@@ -161,7 +131,7 @@ pub fn run_never_counts(mut run: Run) -> u64 {
     reply
 }
 
-/// The words for a header test that takes any count in layout 2.
+/// The words for a header test that takes any count of layout 2.
 fn with_good_count(arena: &[u16]) -> Vec<u16> {
     let mut words = arena.to_vec();
     if let (Some(&LAYOUT_2), Some(count)) = (arena.first(), words.get_mut(COUNT)) {
@@ -193,16 +163,16 @@ pub fn longest_any_count(arena: &[u16], last_cell: u16) -> u64 {
 
 pub fn stored_any_count(arena: &[u16]) -> u64 {
     match Values::read(Model.stored(&with_good_count(arena))) {
-        Some(_) if arena[0] == LAYOUT_2 => count_told(arena[COUNT]),
-        _ => Model.stored(arena),
+        Some(_) => count_told(arena[COUNT]),
+        None => Model.stored(arena),
     }
 }
 
 /// The refusal of a header test that compares the count with the set. Each that has it is right on every
 /// arena that is reached from a fresh one.
 fn other_than_set(arena: &[u16]) -> Option<u64> {
-    let shape = check_header(arena).ok()?;
-    let is_other = shape.layout == LAYOUT_2 && arena[COUNT] != size_of_set(arena);
+    check_header(arena).ok()?;
+    let is_other = arena[COUNT] != size_of_set(arena);
     is_other.then_some(u64::from(ODD_HEADER))
 }
 

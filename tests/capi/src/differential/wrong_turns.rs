@@ -49,11 +49,8 @@ pub fn then(
 
 /// A reply where 2 comes before 1.
 pub fn header_first(arena: &[u16], right: u64) -> u64 {
-    let fits = |arena: &[u16]| {
-        let shape = Shape::new(arena[0], arena[1], arena[2]);
-        shape.is_some_and(|shape| shape.is_header(&arena[..HEADER_WORDS]))
-    };
-    if right == u64::from(SHORT_ARENA) && arena.len() >= HEADER_WORDS && !fits(arena) {
+    let is_odd = Shape::read(arena).is_none() && OldShape::read(arena).is_none();
+    if right == u64::from(SHORT_ARENA) && arena.len() >= HEADER_WORDS && is_odd {
         u64::from(ODD_HEADER)
     } else {
         right
@@ -211,7 +208,12 @@ fn stood_on(arena: &[u16], shape: Shape) -> Vec<u16> {
 }
 
 /// Which nodes are not free, following at most so many links from each root.
-pub fn reached(arena: &[u16], shape: Shape, roots: &[u16], most_links: usize) -> Vec<bool> {
+pub fn reached<const LAYOUT: u16>(
+    arena: &[u16],
+    shape: ShapeIn<LAYOUT>,
+    roots: &[u16],
+    most_links: usize,
+) -> Vec<bool> {
     let mut reached = vec![false; shape.nodes as usize];
     for &root in roots {
         let mut node = root;
@@ -242,8 +244,7 @@ fn search_by(
         };
         let (key, length) = (before[at + CALL_KEY], before[at + CALL_LENGTH]);
         let record = [key, before[at + CURR], 0, 0, length];
-        let width = shape.node_words();
-        after[shape.node_at(node as u16)..][..width].copy_from_slice(&record[..width]);
+        after[shape.node_at(node as u16)..][..NODE_WORDS].copy_from_slice(&record);
         (after[at + STAGE], after[at + SPARE]) = (15, node as u16);
         moved(15)
     })
@@ -279,14 +280,11 @@ pub fn turn_without_tail(arena: &mut [u16], worker: u16) -> u64 {
     })
 }
 
-/// The links of layout 2 are read where those of layout 1 would stand.
+/// Links are read where those of layout 1 would stand.
 pub fn turn_narrow_search(arena: &mut [u16], worker: u16) -> u64 {
     search_by(arena, worker, |arena, shape| {
-        let shape = Shape {
-            layout: LAYOUT_1,
-            ..shape
-        };
-        let taken = reached(arena, shape, &all_roots(arena, shape), MAX_NODES as usize);
+        let (roots, old) = (all_roots(arena, shape), shape.in_layout::<LAYOUT_1>());
+        let taken = reached(arena, old, &roots, MAX_NODES as usize);
         taken.iter().position(|&taken| !taken)
     })
 }
