@@ -119,20 +119,27 @@ fn spoiled(words: usize, first: u16, stage: u16) -> Vec<u16> {
 }
 
 /// Number due, words, first word, worker, stage: a fault less in each row.
+type Fault = (u16, usize, u16, u16, u16);
+
+/// Where the header decides, whatever worker and stage are.
+const BY_HEADER: [Fault; 7] = [
+    (1, WORDS - 1, 1, 2, 26),
+    (1, 39, 0, 2, 26),
+    (2, WORDS, 1, 2, 26),
+    (12, WORDS, 0, 2, 26),
+    (12, WORDS, 0, 1, 26),
+    (12, WORDS, 0, 1, 2),
+    (12, WORDS, 0, 1, 0),
+];
+
 fn order_of_start(checks: &mut Checks) {
-    for (number, words, first, worker, stage) in [
-        (1, WORDS - 1, 1, 2, 26),
-        (1, 39, 0, 2, 26),
-        (2, WORDS, 1, 2, 26),
-        (12, WORDS, 0, 2, 26),
-        (12, WORDS, 0, 1, 26),
-        (12, WORDS, 0, 1, 25),
-        (12, WORDS, 0, 1, 0),
+    let behind: [Fault; 4] = [
         (3, WORDS, 2, 2, 26),
         (6, WORDS, 2, 1, 26),
         (4, WORDS, 2, 1, 25),
         (5, WORDS, 2, 1, 0),
-    ] {
+    ];
+    for (number, words, first, worker, stage) in BY_HEADER.into_iter().chain(behind) {
         let arena = spoiled(words, first, stage);
         for (act, key, length) in [(4, 5, 0), (ADD, 0, 1), (ADD, 5, 65_535), (REMOVE, 5, 1)] {
             let call = |a: &mut [u16]| start(a, worker, act, key, length);
@@ -141,20 +148,13 @@ fn order_of_start(checks: &mut Checks) {
     }
 }
 
-/// As the last one.
 fn order_of_turn(checks: &mut Checks) {
-    for (number, words, first, worker, stage) in [
-        (1, WORDS - 1, 1, 2, 26),
-        (1, 39, 0, 2, 26),
-        (2, WORDS, 1, 2, 26),
-        (12, WORDS, 0, 2, 26),
-        (12, WORDS, 0, 1, 26),
-        (12, WORDS, 0, 1, 2),
-        (12, WORDS, 0, 1, 0),
+    let behind: [Fault; 3] = [
         (3, WORDS, 2, 2, 26),
         (6, WORDS, 2, 1, 26),
         (7, WORDS, 2, 1, 2),
-    ] {
+    ];
+    for (number, words, first, worker, stage) in BY_HEADER.into_iter().chain(behind) {
         let arena = spoiled(words, first, stage);
         refused(checks, "turn", number, arena, |a| turn(a, worker));
     }
