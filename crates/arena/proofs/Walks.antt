@@ -15,7 +15,7 @@ use Rattle.std.specs.Prelude.{Some, None}
 use Rattle.std.specs.List.{fold, filter}
 use Rattle.worker.specs.Node.{head, tail}
 use Rattle.worker.specs.declared.Node.{Node}
-use Rattle.words.specs.Records.{node_found}
+use Rattle.words.specs.Records.{found}
 use Rattle.words.proofs.RecordLaws.{found_is, found_none}
 use Rattle.arena.specs.declared.chain.Label.{Label}
 use Rattle.arena.specs.Sets.{is_none, label_at, is_unmarked, shown, walk, chain, chain_nodes, set_nodes}
@@ -43,12 +43,12 @@ module _ (nodes : ℕ → Node) (count : ℕ) where
       walk_end (suc steps) left t = rw (eq-eqb _ _ t)
 
       module _ (off : node ≢ tail) where
-        pub walk_out : (steps : ℕ) → node_found nodes count node ≡ None → told visitor (walk nodes count steps last node) ≡ none
+        pub walk_out : (steps : ℕ) → found nodes count node ≡ None → told visitor (walk nodes count steps last node) ≡ none
         unfolding walk
         walk_out zero out = refl
         walk_out (suc steps) out = rw (ne_eqb _ _ off, found_none nodes count node out)
 
-        module _ (n : Node) (found : node_found nodes count node ≡ Some n) where
+        module _ (n : Node) (found : found nodes count node ≡ Some n) where
           pub walk_falls : (steps : ℕ) → n.key ≤ last → told visitor (walk nodes count steps last node) ≡ none
           unfolding walk
           walk_falls zero falls = refl

@@ -30,7 +30,7 @@ pub trait Visitor {
 pub trait NodeRecords: Copy {
     ghost use Rattle.std.specs.Prelude.{ℕ};
     ghost use Rattle.worker.specs.declared.Node.{Node};
-    ghost use Rattle.words.specs.Records.{node_found};
+    ghost use Rattle.words.specs.Records.{found};
 
     ghost nodes: { Self → ℕ → Node };
 
@@ -42,7 +42,7 @@ pub trait NodeRecords: Copy {
 
     // A node, if there is one of that number.
     fn find(self, node: u16) -> Option<Node>
-        ensures { result ≡ node_found (nodes self) (count self) node };
+        ensures { result ≡ found (nodes self) (count self) node };
 }
 
 impl<'a> NodeRecords for Nodes<'a> {

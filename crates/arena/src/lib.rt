@@ -69,14 +69,13 @@ fn call_verdict(
 ) -> Result<(), Refusal>
     ensures { reply no_values result ≡ replied (call_refusals arena.entry.words.now worker operation key length) [] }
 {
-    if arena.worker_count() <= worker {
+    let Some(state) = arena.worker(worker) else {
         return Err(Refusal::NoSuchWorker);
-    }
-    let stage = arena.worker(worker).stage;
-    if Worker::LAST_STAGE < stage {
+    };
+    if Worker::LAST_STAGE < state.stage {
         return Err(Refusal::BrokenRecord);
     }
-    if stage != Worker::IDLE_STAGE {
+    if state.stage != Worker::IDLE_STAGE {
         return Err(Refusal::Busy);
     }
     if !worker::is_call(operation, key, length) {

@@ -13,7 +13,7 @@ use Rattle.worker.specs.Node.{with_length, unused_node}
 use Rattle.worker.specs.declared.Node.{Node}
 use Rattle.words.specs.Layout.{word, slot, node_length}
 use Rattle.words.specs.Flat.{flat_words}
-use Rattle.words.specs.Records.{node_words, node_found}
+use Rattle.words.specs.Records.{node_words, found}
 use Rattle.words.proofs.FlatLaws.{flat_at}
 use Rattle.words.proofs.RecordLaws.{no_node_there, found_none}
 use Rattle.words.proofs.Runs.{sets_append}
@@ -71,7 +71,7 @@ gone has_lengths l count node long past =
     same false = refl
 
 -- so it is where none is found
-pub not_found : (has_lengths : Bool) (l : List ℕ) (count node : ℕ) → length l ≡ width has_lengths * count → node_found (part_node has_lengths l) count node ≡ None →
+pub not_found : (has_lengths : Bool) (l : List ℕ) (count node : ℕ) → length l ≡ width has_lengths * count → found (part_node has_lengths l) count node ≡ None →
     part_node has_lengths l node ≡ unused_node
 not_found has_lengths l count node long none = gone has_lengths l count node long (ltb-false node count (found_none (part_node has_lengths l) count node none))
 

@@ -3,9 +3,7 @@ use Prim.Native.Nat.{ℕ, suc, ◌<◌, ◌≤◌}
 use mathlib.Core.Path.{◌≡◌, refl}
 use mathlib.Core.Logic.{inl, inr}
 use mathlib.Core.List.{List}
-use mathlib.Core.Bool.{Bool, true, false, cond}
 use native.Mathlib.Omega.{arith}
-use lib.Dec.{eqb}
 use Rattle.std.specs.Prelude.{Option, Some, None}
 use Rattle.worker.specs.declared.refusal.Refusal.{Refusal}
 use Rattle.worker.specs.declared.report.Step.{Step}
@@ -30,12 +28,11 @@ pub effect_below : (arena : List ℕ) (worker : ℕ) {step : Step} → turn_on a
 unfolding seen_by seen_of
 effect_below arena worker e =
     done_below (worker_at arena worker) (suc worker) (seen_by arena (worker_at arena worker)) (turn_accepted arena worker e).done
-    (go (eqb (worker_at arena worker).stage 14) (found_in arena).free refl)
+    (go (found_in arena).free refl)
   where
-    go : (t : Bool) (found : Option ℕ) → (found_in arena).free ≡ found → FreeBelow (nodes_of arena) (cond t found None)
-    go true None same = tt
-    go true (Some node) same = (lowest_found (next_in arena) (nodes_of arena) (roots_in arena) same).0.below
-    go false found same = tt
+    go : (found : Option ℕ) → (found_in arena).free ≡ found → FreeBelow (nodes_of arena) found
+    go None same = tt
+    go (Some node) same = (lowest_found (next_in arena) (nodes_of arena) (roots_in arena) same).0.below
 
 -- a field of a node below N stands among the node records
 pub field_inside : (arena : List ℕ) (node field : ℕ) → Header arena → node < nodes_of arena → field < node_width →

@@ -6,7 +6,6 @@ pub mod ShortRuns
 pub mod FreeLaws
 pub mod Walk
 pub mod WholeSearch
-pub mod SightLaws
 pub mod ChangeLaws
 pub mod TurnLaws
 pub mod InsideLaws

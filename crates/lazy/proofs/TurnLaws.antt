@@ -1,12 +1,12 @@
 -- What a turn on an arena does and what it leaves: for those who build on it.
-use Prim.Native.Nat.{ℕ, suc, ◌-◌, ◌≤◌, ◌<◌}
-use mathlib.Core.Path.{◌≡◌, refl, sym, ap, ◌∙◌}
+use Prim.Native.Nat.{ℕ, suc, ◌+◌, ◌-◌, ◌≤◌, ◌<◌}
+use mathlib.Core.Path.{◌≡◌, refl, sym, ap, subst, ◌∙◌}
 use mathlib.Core.Logic.{◌⊎◌, ◌↔◌, inl, inr}
 use mathlib.Core.List.{List, [], ◌∷◌}
 use mathlib.Core.Bool.{Bool, true, false, cond, true≢false}
 use native.Mathlib.Omega.{arith}
 use lib.Seq.{get_or-set_other}
-use lib.Dec.{leb, eqb}
+use lib.Dec.{leb}
 use native.Mathlib.Decide.{ℕ_discrete}
 use borrow.Author.Tests.{leb-false, eqb-true, eqb-false, eq-eqb, ne_eqb}
 use Rattle.worker.specs.Node.{new_node}
@@ -19,6 +19,8 @@ use Rattle.worker.specs.declared.Worker.{Worker}
 use Rattle.std.specs.Prelude.{Option, Some, None}
 use Rattle.worker.specs.declared.refusal.Refusal.{Refusal}
 use Rattle.worker.specs.declared.report.Report.{Report}
+use Rattle.worker.specs.declared.report.Report.TheVariants.{Moved, Finished}
+use Rattle.worker.specs.declared.report.Answer.{Answer}
 use Rattle.worker.specs.declared.report.Step.{Step}
 use Rattle.worker.specs.declared.report.Effect.{Effect}
 use Rattle.worker.specs.declared.report.Effect.TheVariants as effect
@@ -28,21 +30,21 @@ use Rattle.std.specs.Prelude.{Result, Ok, Err}
 use Rattle.worker.proofs.RefusalLaws.{NoneHolds, judged_append, none_accepts}
 use Rattle.worker.proofs.ReportLaws.{report_told}
 use Rattle.worker.proofs.TurnLaws.{judged_done, done_step, step_row}
-use Rattle.worker.proofs.StillLaws.{still_step}
+use Rattle.worker.proofs.WrittenLaws.{Writes, step_written, still_step}
 use Rattle.worker.proofs.CountLaws.{step_grows}
-use Rattle.words.specs.Layout.{word, workers_of, nodes_of, stored_of, stored_at, node_from, node_key, node_next, node_mark, node_owner}
-use Rattle.words.specs.Records.{worker_at, with_worker, node_words, with_node, Outside}
+use Rattle.words.specs.Layout.{word, worker_width, worker_from, worker_operation, worker_key, worker_length, workers_of, nodes_of, stored_of, stored_at, node_from, node_key, node_next, node_mark, node_owner}
+use Rattle.words.specs.Records.{worker_at, with_worker, with_moved, node_words, with_node, Outside}
 use Rattle.words.specs.Replies.{refused, accepted, refusing, reply}
 use Rattle.words.specs.Header.{header_refusals}
 use Rattle.words.proofs.Judged.{reply_told}
 use Rattle.words.proofs.HeaderLaws.{Header, header_holds}
 use Rattle.words.proofs.Runs.{sets_outside}
-use Rattle.words.proofs.RecordLaws.{others_stay, rewritten}
+use Rattle.words.proofs.RecordLaws.{others_stay, rewritten, moved_written}
 use Rattle.lazy.specs.FindFree.{next_in, roots_in, found_in}
 use Rattle.lazy.specs.Turn.{seen_of, seen_by, worker_refusals, miscounts, counted, turn_on, outcome_of, with_effect, with_changes, turned_arena, turn_answer, turn_arena}
 use Rattle.lazy.specs.Claims.{Takes, IsFull, Touches, Recounts, BadCount}
 use Rattle.lazy.proofs.FreeLaws.{lowest_found, lowest_none}
-use Rattle.lazy.proofs.ChangeLaws.{CountFits, effect_before, count_stays, growth_leaves, changes_count}
+use Rattle.lazy.proofs.ChangeLaws.{CountFits, effect_before, count_stays, growth_leaves, changes_before, changes_count}
 
 -- the reply tells the report, so a turn answers just what it comes to
 pub answer_told : (arena : List ℕ) (worker : ℕ) {told : Result Report Refusal} → reply report_values told ≡ turn_answer arena worker →
@@ -204,39 +206,75 @@ pub turn_steps : (arena : List ℕ) (worker : ℕ) {step : Step} → turn_on are
 turn_steps arena worker e =
     done_step (worker_at arena worker) (suc worker) (seen_by arena (worker_at arena worker)) (turn_accepted arena worker e).done
 
--- a turn that is idle or waits changes no word
+-- a turn that is done, and is idle or waits, changes no word
+pub still_turn : (arena : List ℕ) (worker : ℕ) {step : Step} → turn_on arena worker ≡ Ok step → is_still step.report ≡ true →
+    turn_arena arena worker ≡ arena
+unfolding turn_arena with_effect
+still_turn arena worker is still =
+    let w : Worker = worker_at arena worker in
+    let does = turn_steps arena worker is in
+    let stays = still_step w (suc worker) (seen_by arena w) (ap (λ (t : Step). is_still t.report) (sym does) ∙ still) in
+    ap (turned_arena arena worker) is
+    ∙ ap (λ (t : Step). turned_arena arena worker (Ok t)) (does ∙ stays)
+    ∙ ap (λ (words : List ℕ). with_worker words worker w) (count_stays arena)
+    ∙ rewritten arena worker
+
+-- so a turn that reports so changes none
 pub still_stays : (arena : List ℕ) (worker : ℕ) (report : Report) → is_still report ≡ true →
     turn_answer arena worker ≡ accepted (report_values report) → turn_arena arena worker ≡ arena
-unfolding turn_arena with_effect
+unfolding turn_arena
 still_stays arena worker report still e =
     go (turn_on arena worker) refl (answer_told arena worker {told = Ok report} (sym e))
   where
-    w : Worker
-    w = worker_at arena worker
-
-    go : (t : Result Step Refusal) → turn_on arena worker ≡ t → Ok report ≡ outcome_of t → turned_arena arena worker t ≡ arena
-    go (Err number) is told = refl
+    go : (t : Result Step Refusal) → turn_on arena worker ≡ t → Ok report ≡ outcome_of t → turn_arena arena worker ≡ arena
+    go (Err refusal) is told = ap (turned_arena arena worker) is
     go (Ok step) is told =
-        let same : report ≡ step.report = cc in
-        let does = turn_steps arena worker is in
-        let stays = still_step w (suc worker) (seen_by arena w) (ap (λ (t : Step). is_still t.report) (sym does) ∙ ap is_still (sym same) ∙ still) in
-        ap (λ (t : Step). turned_arena arena worker (Ok t)) (does ∙ stays)
-        ∙ ap (λ (words : List ℕ). with_worker words worker w) (count_stays arena)
-        ∙ rewritten arena worker
+        let same : report ≡ step.report = cc in still_turn arena worker is (ap is_still (sym same) ∙ still)
+
+-- what a turn that is done writes, by what it reports
+turn_written : (arena : List ℕ) (worker : ℕ) {step : Step} {report : Report} → turn_on arena worker ≡ Ok step → step.report ≡ report →
+    Writes (worker_at arena worker) (suc worker) (seen_by arena (worker_at arena worker)) step report
+turn_written arena worker {step} is tells =
+    let w : Worker = worker_at arena worker in
+    let seen = seen_by arena w in
+    let does = turn_steps arena worker is in
+    subst (Writes w (suc worker) seen step) tells
+    (subst (λ (t : Step). Writes w (suc worker) seen t t.report) (sym does) (step_written w (suc worker) seen))
+
+-- where it moves, its changes and what a move may change of the record
+pub moved_turn : (arena : List ℕ) (worker : ℕ) {step : Step} {stage : ℕ} → turn_on arena worker ≡ Ok step → step.report ≡ Moved stage →
+    with_moved (with_changes arena step) worker step.worker ≡ turn_arena arena worker
+unfolding turn_arena worker_at
+moved_turn arena worker {step} is moves =
+    let it = turn_accepted arena worker is in
+    let keeps = turn_written arena worker is moves in
+    let stays : (field : ℕ) → field < worker_width → word (with_changes arena step) (worker_from worker + field) ≡ word arena (worker_from worker + field)
+    = λ field inside. changes_before arena step (worker_from worker + field) (omega (arith, it.header.from, it.known)) (λ same. omega arith) in
+    moved_written (with_changes arena step) worker step.worker
+    (stays worker_operation (omega arith) ∙ sym (ap (λ (w : Worker). w.operation) keeps))
+    (stays worker_key (omega arith) ∙ sym (ap (λ (w : Worker). w.key) keeps))
+    (stays worker_length (omega arith) ∙ sym (ap (λ (w : Worker). w.length) keeps))
+    ∙ sym (ap (turned_arena arena worker) is)
+
+-- where it finishes, the record alone
+pub finished_turn : (arena : List ℕ) (worker : ℕ) {step : Step} {answer : Answer} → turn_on arena worker ≡ Ok step →
+    step.report ≡ Finished answer → with_worker arena worker step.worker ≡ turn_arena arena worker
+unfolding turn_arena with_effect
+finished_turn arena worker {step} is finishes =
+    sym (
+    ap (turned_arena arena worker) is
+    ∙ ap (λ (t : Step). with_worker (with_changes arena t) worker step.worker) (turn_written arena worker is finishes)
+    ∙ ap (λ (words : List ℕ). with_worker words worker step.worker) (count_stays arena))
 
 -- at 14 a free node is taken where there is one, and full is answered only where there is none
 pub takes_free : (arena : List ℕ) (worker : ℕ) {step : Step} → turn_on arena worker ≡ Ok step →
     (worker_at arena worker).stage ≡ 14 → Takes arena (worker_at arena worker) step ⊎ IsFull arena (worker_at arena worker) step
 unfolding seen_by seen_of
 takes_free arena worker {step} e s =
-    go (found_in arena).free refl
-    (turn_steps arena worker e ∙ step_row w (suc worker) (seen_by arena w) s ∙ ap (takes w) (seen_free w.stage s))
+    go (found_in arena).free refl (turn_steps arena worker e ∙ step_row w (suc worker) (seen_by arena w) s)
   where
     w : Worker
     w = worker_at arena worker
-
-    seen_free : (stage : ℕ) → stage ≡ 14 → cond (eqb stage 14) (found_in arena).free None ≡ (found_in arena).free
-    seen_free stage s = rw s
 
     go : (found : Option ℕ) → (found_in arena).free ≡ found → step ≡ takes w found → Takes arena w step ⊎ IsFull arena w step
     go None none same =

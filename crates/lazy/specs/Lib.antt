@@ -4,4 +4,3 @@ pub mod FindFree
 pub mod Row
 pub mod Turn
 pub mod Claims
-pub mod Sight

@@ -1,5 +1,5 @@
 -- A worker's turn on an arena (document 01: give a worker a turn).
-use Rattle.std.specs.Prelude.{ℕ, suc, List, [], ◌∷◌, ◌++◌, Bool, false, cond, set, leb, eqb, None, Result, Ok, Err}
+use Rattle.std.specs.Prelude.{ℕ, suc, List, [], ◌∷◌, ◌++◌, Bool, false, cond, set, leb, eqb, Result, Ok, Err}
 use Rattle.worker.specs.Node.{new_node}
 use Rattle.worker.specs.Refusals.{Test, judged}
 use Rattle.worker.specs.declared.refusal.Refusal.TheVariants.{NoSuchWorker, BrokenCount}
@@ -11,7 +11,7 @@ use Rattle.worker.specs.declared.Worker.{Worker}
 use Rattle.worker.specs.declared.refusal.Refusal.{Refusal}
 use Rattle.worker.specs.declared.report.Report.{Report}
 use Rattle.worker.specs.declared.report.Step.{Step}
-use Rattle.worker.specs.declared.report.Seen.{Seen}
+use Rattle.worker.specs.Seen.{Seen}
 use Rattle.worker.specs.declared.report.Effect.{Effect}
 use Rattle.worker.specs.declared.report.Effect.TheVariants as effect
 use Rattle.worker.specs.declared.report.Growth.{Growth}
@@ -28,14 +28,14 @@ abbrev pub outcome_of : Result Step Refusal → Result Report Refusal
 outcome_of (Ok step) = Ok step.report
 outcome_of (Err refusal) = Err refusal
 
--- what a turn sees besides the worker's record: N, the nodes pred and curr, and at 14 the lowest-numbered free node
+-- what a turn may see besides the worker's record: N, the nodes pred and curr, and the lowest-numbered free node
 unfoldable pub seen_of : (ℕ → Worker) → ℕ → (ℕ → Node) → ℕ → Worker → Seen
 seen_of workers worker_count node count w =
     record {
       count = count;
       pred = node w.pred;
       curr = node w.curr;
-      free = cond (eqb w.stage 14) (lowest_free (λ n. (node n).next) count (roots_of workers worker_count)) None;
+      free = lowest_free (λ n. (node n).next) count (roots_of workers worker_count);
     }
 
 -- of an arena

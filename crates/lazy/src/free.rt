@@ -1,12 +1,13 @@
 // The search for a free node: reach every node that a root leads to, and take the lowest that was not reached.
 ghost use Rattle.std.specs.Prelude.{◌+◌, ◌≤◌, ◌<◌, ◌≡◌, [], ◌∷◌, length};
-ghost use Rattle.words.specs.Layout.{nodes_of};
+ghost use Rattle.words.specs.Layout.{nodes_of, node_width, slot};
+ghost use Rattle.words.specs.Records.{Spans};
 ghost use Rattle.lazy.specs.Free.{lowest_from};
 ghost use Rattle.lazy.specs.FindFree.{found_in};
 ghost use Rattle.lazy.specs.Row.{next_at, holds, held, AllHeld, four_held, empty_row, Closed, Reaches};
 
 use crate::Found;
-use words::{Arena, Nodes, layout};
+use words::{Arena, layout};
 use worker::{Node, Worker};
 
 // The lowest-numbered free node, and how many next words were read (document 01: the hunt; document 02, A4). The row, with a
@@ -26,11 +27,11 @@ fn search_with(reached: &mut [bool], arena: Arena) -> Found
     requires { reached.old ≡ empty_row (nodes_of arena.words.now) }
     ensures { result ≡ found_in arena.entry.words.now }
 {
-    let nodes = arena.nodes();
+    let nodes = arena.nodes().words;
     let head = reach_from(reached, nodes, Node::HEAD, 0);
     let mut reads = reach_from(reached, nodes, Node::TAIL, head);
     for number in 0..arena.worker_count() {
-        reads = reach_worker(reached, nodes, arena.worker(number), reads);
+        reads = reach_worker(reached, nodes, arena.worker(number).unwrap(), reads);
     }
     Found {
         free: lowest_unreached(reached),
@@ -40,13 +41,13 @@ fn search_with(reached: &mut [bool], arena: Arena) -> Found
 
 // Walks the next links from a root, and counts each that it reads. Where a node was reached before, so was all that follows it, and nothing
 // of it is read again. The row and the count are no struct: the check covers no fact beside a lent row, and without it a struct says no more.
-fn reach_from(reached: &mut [bool], nodes: Nodes, root: u16, reads: u16) -> u16
-    requires places { length reached.old ≡ nodes.count }
-    requires so_far { Closed (next_at nodes.words.now) nodes.count reached.old
-        × (reads ≡ held nodes.count reached.old) }
-    ensures walked { Reaches (next_at nodes.entry.words.now) nodes.entry.count (root ∷ [])
+fn reach_from(reached: &mut [bool], nodes: &[u16], root: u16, reads: u16) -> u16
+    requires places { Spans (length reached.old) nodes.now }
+    requires so_far { Closed (next_at nodes.now) (length reached.old) reached.old
+        × (reads ≡ held (length reached.old) reached.old) }
+    ensures walked { Reaches (next_at nodes.now) (length reached.old) (root ∷ [])
         reached.old reached.new }
-    ensures counted { result ≡ held nodes.entry.count reached.new }
+    ensures counted { result ≡ held (length reached.old) reached.new }
 {
     let mut node = root as usize;
     let mut so_far = reads;
@@ -63,13 +64,13 @@ fn reach_from(reached: &mut [bool], nodes: Nodes, root: u16, reads: u16) -> u16
 }
 
 // The same from the three roots that a worker holds.
-fn reach_worker(reached: &mut [bool], nodes: Nodes, worker: Worker, reads: u16) -> u16
-    requires places { length reached.old ≡ nodes.count }
-    requires so_far { Closed (next_at nodes.words.now) nodes.count reached.old
-        × (reads ≡ held nodes.count reached.old) }
-    ensures walked { Reaches (next_at nodes.entry.words.now) nodes.entry.count
+fn reach_worker(reached: &mut [bool], nodes: &[u16], worker: Worker, reads: u16) -> u16
+    requires places { Spans (length reached.old) nodes.now }
+    requires so_far { Closed (next_at nodes.now) (length reached.old) reached.old
+        × (reads ≡ held (length reached.old) reached.old) }
+    ensures walked { Reaches (next_at nodes.now) (length reached.old)
         (worker.pred ∷ worker.curr ∷ worker.spare ∷ []) reached.old reached.new }
-    ensures counted { result ≡ held nodes.entry.count reached.new }
+    ensures counted { result ≡ held (length reached.old) reached.new }
 {
     let first = reach_from(reached, nodes, worker.pred, reads);
     let second = reach_from(reached, nodes, worker.curr, first);
@@ -77,11 +78,11 @@ fn reach_worker(reached: &mut [bool], nodes: Nodes, worker: Worker, reads: u16) 
 }
 
 // Reads a node's next word. The search reads none anywhere else.
-fn next_of(nodes: Nodes, node: usize) -> u16
-    requires { node < nodes.count }
-    ensures { result ≡ next_at nodes.entry.words.now node }
+fn next_of(nodes: &[u16], node: usize) -> u16
+    requires { (node < 1024) × (slot node_width node node_width ≤ length nodes.now) }
+    ensures { result ≡ next_at nodes.now node }
 {
-    nodes.words[layout::slot(node as u16, layout::NODE_NEXT)]
+    nodes[layout::slot(node as u16, layout::NODE_NEXT)]
 }
 
 // The lowest node that was not reached.

@@ -4,16 +4,16 @@
 ghost use Rattle.std.specs.Prelude.{◌<◌, ◌≡◌};
 ghost use Rattle.worker.specs.Report.{report_values};
 ghost use Rattle.words.specs.Layout.{nodes_of, stored_of};
-ghost use Rattle.words.specs.Records.{node_at};
 ghost use Rattle.words.specs.Replies.{reply};
 ghost use Rattle.lazy.specs.FindFree.{found_values, find_free_answer};
-ghost use Rattle.lazy.specs.Sight.{looks_at_pred, looks_at_curr, looked_at, sight};
-ghost use Rattle.lazy.specs.Turn.{seen_by, miscounts, counted, turn_on, with_effect, with_growth, with_changes, turn_answer, turn_arena};
+ghost use Rattle.lazy.specs.Turn.{miscounts, counted, turn_on, with_effect, with_growth, with_changes, turn_answer, turn_arena};
 
-use words::{Arena, Nodes, layout, put, records, word};
-use worker::{Effect, Growth, Node, Refusal, Report, Seen, Step, Worker};
+use view::View;
+use words::{Arena, layout, put, records, word};
+use worker::{Effect, Growth, Node, Refusal, Report, Step};
 
 mod free;
+mod view;
 
 // What the search for a free node comes to: the node, or that there is none; and how many next words it read.
 #[derive(Clone, Copy, Debug, PartialEq, Eq)]
@@ -23,13 +23,20 @@ pub struct Found {
 }
 
 // Gives a worker a turn.
+#[inline(always)]
 pub fn turn(arena: &mut [u16], worker: u16) -> Result<Report, Refusal>
     ensures answer { reply report_values result ≡ turn_answer arena.old worker }
     ensures words { arena.new ≡ turn_arena arena.old worker }
 {
     let step = turned(arena, worker)?;
-    apply(arena, step);
-    records::write_worker(arena, worker, step.worker);
+    match step.report {
+        Report::Idle | Report::Waits(_, _) => {}
+        Report::Moved(_) => {
+            apply(arena, step);
+            records::write_moved(arena, worker, step.worker);
+        }
+        Report::Finished(_) => records::write_worker(arena, worker, step.worker),
+    }
     Ok(step.report)
 }
 
@@ -43,15 +50,15 @@ pub fn find_free(arena: &[u16]) -> Result<Found, Refusal>
 }
 
 // What the turn comes to, with nothing written yet.
+#[inline(always)]
 fn turned(arena: &[u16], worker: u16) -> Result<Step, Refusal>
     ensures { result ≡ turn_on arena.now worker }
 {
     let arena = Arena::new(arena)?;
-    if arena.worker_count() <= worker {
+    let Some(state) = arena.worker(worker) else {
         return Err(Refusal::NoSuchWorker);
-    }
-    let state = arena.worker(worker);
-    counted(arena, state.turn(worker + 1, see(arena, state)))
+    };
+    counted(arena, state.turn(worker + 1, View { arena, state }))
 }
 
 // A turn is refused where its change of the count cannot be.
@@ -77,49 +84,8 @@ fn miscounts(arena: Arena, growth: Growth) -> bool
     }
 }
 
-// What the turn of a worker looks at. Only the stage that takes a free node searches for one.
-fn see(arena: Arena, state: Worker) -> Seen
-    ensures { result ≡ sight state (seen_by arena.entry.words.now state) }
-{
-    let nodes = arena.nodes();
-    Seen {
-        count: nodes.count,
-        pred: look_at_pred(nodes, state),
-        curr: look_at_curr(nodes, state),
-        free: if state.stage == Worker::TAKE_STAGE {
-            free::search(arena).free
-        } else {
-            None
-        },
-    }
-}
-
-// The node pred, for the stages that look at its next, owner or mark; an unused one for the others, as in the definition. Not one function with
-// the next: it would be given which stages look, by two functions more.
-fn look_at_pred(nodes: Nodes, state: Worker) -> Node
-    ensures { result ≡ looked_at (looks_at_pred state.stage) (node_at nodes.entry.words.now state.pred) }
-{
-    let stage = state.stage;
-    match stage {
-        2 | 6 | 8 | 10 => nodes.get(state.pred),
-        _ => Node::unused(),
-    }
-}
-
-// The node curr, for the stages that look at its key; at its next; at its owner or mark.
-fn look_at_curr(nodes: Nodes, state: Worker) -> Node
-    ensures { result ≡ looked_at (looks_at_curr state.stage) (node_at nodes.entry.words.now state.curr) }
-{
-    let stage = state.stage;
-    match stage {
-        3 | 13 | 23 => nodes.get(state.curr),
-        5 | 17 | 24 => nodes.get(state.curr),
-        7 | 9 | 25 => nodes.get(state.curr),
-        _ => Node::unused(),
-    }
-}
-
 // The one place where a turn writes to the nodes and to the count.
+#[inline(always)]
 fn apply(arena: &mut [u16], step: Step)
     requires { stored_of (with_effect arena.old step.effect) < 65535 }
     ensures { arena.new ≡ with_changes arena.old step }
@@ -129,6 +95,7 @@ fn apply(arena: &mut [u16], step: Step)
 }
 
 #[tactic(auto, unfolding(crate::specs::Turn::with_effect))]
+#[inline(always)]
 fn apply_effect(arena: &mut [u16], effect: Effect)
     ensures { arena.new ≡ with_effect arena.old effect }
 {

@@ -54,11 +54,9 @@ module _ {nodes : ℕ} {s : State} (inv : Inv nodes s) (w : ℕ) where
   module _ (workers : ℕ)
       (found : (n : ℕ) → lowest_free s.next nodes (roots_of s.worker workers) ≡ Some n → (n < nodes) × (Live nodes s n → ⊥))
       (below : (s.worker w).stage < 26) where
-    free_found : (asked : Bool) (some : Option ℕ) → lowest_free s.next nodes (roots_of s.worker workers) ≡ some →
-        FreeFound inv w (cond asked some None)
-    free_found true None e = tt
-    free_found true (Some n) e = found n e
-    free_found false some e = tt
+    free_found : (some : Option ℕ) → lowest_free s.next nodes (roots_of s.worker workers) ≡ some → FreeFound inv w some
+    free_found None e = tt
+    free_found (Some n) e = found n e
 
     rows : AllFrom Rows 0 (stage_table (s.worker w) (suc w) (seen_in workers nodes s w))
     unfolding seen_of
@@ -77,7 +75,7 @@ module _ {nodes : ℕ} {s : State} (inv : Inv nodes s) (w : ℕ) where
         then row_11 inv w
         then row_12 inv w
         then row_13 inv w _ _ refl refl
-        then row_14 inv w (seen_in workers nodes s w).free (free_found (eqb (s.worker w).stage 14) _ refl)
+        then row_14 inv w (seen_in workers nodes s w).free (free_found _ refl)
         then row_15 inv w
         then row_16 inv w
         then row_17 inv w

@@ -8,7 +8,7 @@ use Rattle.worker.specs.Stages.{reports, step_of, grown}
 use Rattle.worker.specs.declared.Node.{Node}
 use Rattle.worker.specs.declared.Worker.{Worker}
 use Rattle.worker.specs.declared.report.Report.TheVariants.{Idle}
-use Rattle.worker.specs.declared.report.Seen.{Seen}
+use Rattle.worker.specs.Seen.{Seen}
 use Rattle.worker.specs.declared.report.Step.{Step}
 use Rattle.worker.specs.declared.report.Effect.{Effect}
 use Rattle.worker.specs.declared.report.Effect.TheVariants.{Nothing, SetOwner, SetNext, SetMark, Fill}

@@ -12,7 +12,7 @@ use Rattle.worker.specs.Report.{numbered_answer}
 use Rattle.worker.specs.Stages.{reports, stage_table, step_of}
 use Rattle.worker.specs.declared.Worker.{Worker}
 use Rattle.worker.specs.declared.report.Report.TheVariants.{Idle, Finished}
-use Rattle.worker.specs.declared.report.Seen.{Seen}
+use Rattle.worker.specs.Seen.{Seen}
 use Rattle.worker.specs.declared.report.Step.{Step}
 use Rattle.worker.proofs.Laws.{range_bounds}
 use Rattle.worker.proofs.ReportLaws.{numbered_back}

@@ -1,23 +1,22 @@
 -- Laws of records: a node that there is not, and a worker's record in an arena.
-use Prim.Native.Nat.{ℕ, ◌+◌, ◌*◌, ◌≤◌, ◌<◌}
+use Prim.Native.Nat.{ℕ, zero, suc, ◌+◌, ◌*◌, ◌≤◌, ◌<◌}
 use mathlib.Core.Path.{◌≡◌, refl, sym, subst, ◌∙◌}
 use mathlib.Core.Logic.{⊎_elim}
-use mathlib.Core.List.{List}
+use mathlib.Core.List.{List, [], ◌∷◌}
 use mathlib.Core.Bool.{Bool, true, false, cond}
 use native.Mathlib.Omega.{arith}
 use native.Mathlib.Nat.{add-zero}
-use lib.ListN.{length, take, drop, get_or-eq_default}
-use lib.Seq.{sets, get_or-take, get_or-drop}
+use lib.ListN.{length, set, take, drop, get_or-eq_default}
+use lib.Seq.{sets, get_or-set_other, get_or-take, get_or-drop}
 use lib.Dec.{ltb}
 use borrow.Author.Tests.{ltb-false}
 use Rattle.std.specs.Prelude.{Some, None}
 use Rattle.worker.specs.Node.{unused_node}
-use Rattle.worker.specs.declared.Node.{Node}
 use Rattle.worker.specs.declared.Worker.{Worker}
 use Rattle.words.specs.Layout.{word, node_width, header_width, worker_width, worker_stage, worker_operation, worker_key, worker_pred, worker_curr, worker_spare, worker_answer, worker_length, worker_from, slot, workers_of, worker_part}
-use Rattle.words.specs.Records.{node_read, node_at, node_found, worker_words, worker_at, with_worker, Outside}
+use Rattle.words.specs.Records.{node_read, node_at, found, worker_words, worker_at, with_worker, with_moved, Outside}
 use Rattle.words.proofs.Slots.{slot_within}
-use Rattle.words.proofs.Runs.{sets_outside, sets_at, run, sets_run}
+use Rattle.words.proofs.Runs.{sets_outside, sets_at, run, sets_run, Stands, sets_between}
 
 -- where there are no words for a node, it is read as zeros
 pub no_node_there : (l : List ℕ) (at : ℕ) → length l ≤ at → node_read l at ≡ unused_node
@@ -33,24 +32,24 @@ no_node_there l at past =
     zero_at : (f : ℕ) → word l (at + f) ≡ 0
     zero_at f = get_or-eq_default l 0 (omega arith)
 
--- what finding a node says
-module _ (nodes : ℕ → Node) (count node : ℕ) where
-  pub found_is : (n : Node) → node_found nodes count node ≡ Some n → (ltb node count ≡ true) × (n ≡ nodes node)
-  found_is n = go (ltb node count)
+-- what finding one by its number says
+module _ {A : Type 0} (all : ℕ → A) (count number : ℕ) where
+  pub found_is : (one : A) → found all count number ≡ Some one → (ltb number count ≡ true) × (one ≡ all number)
+  found_is one = go (ltb number count)
     where
-      go : (t : Bool) → cond t (Some (nodes node)) None ≡ Some n → (t ≡ true) × (n ≡ nodes node)
+      go : (t : Bool) → cond t (Some (all number)) None ≡ Some one → (t ≡ true) × (one ≡ all number)
       go true e = (refl, cc)
       go false e = let z : ◌≡◌ {A = ℕ} 0 1 = cc in absurd (omega arith)
 
-  pub found_none : node_found nodes count node ≡ None → ltb node count ≡ false
-  found_none = go (ltb node count)
+  pub found_none : found all count number ≡ None → ltb number count ≡ false
+  found_none = go (ltb number count)
     where
-      go : (t : Bool) → cond t (Some (nodes node)) None ≡ None → t ≡ false
+      go : (t : Bool) → cond t (Some (all number)) None ≡ None → t ≡ false
       go true e = let z : ◌≡◌ {A = ℕ} 0 1 = cc in absurd (omega arith)
       go false e = refl
 
 -- where there is no node of that number, its record is read as zeros
-pub not_found : (l : List ℕ) (count node : ℕ) → length l ≡ node_width * count → node_found (node_at l) count node ≡ None →
+pub not_found : (l : List ℕ) (count node : ℕ) → length l ≡ node_width * count → found (node_at l) count node ≡ None →
     node_at l node ≡ unused_node
 unfolding node_at
 not_found l count node long none =
@@ -129,3 +128,35 @@ unfolding worker_at with_worker
 rewritten arena worker =
     subst (λ at. sets arena at (run arena (worker_from worker) 0 worker_width) ≡ arena) (add-zero (worker_from worker))
     (sets_run worker_width arena (worker_from worker) 0)
+
+-- where the other words of a record stand already, only those that a move may change need be written
+pub moved_written : (arena : List ℕ) (worker : ℕ) (w : Worker) → word arena (worker_from worker + worker_operation) ≡ w.operation →
+    word arena (worker_from worker + worker_key) ≡ w.key → word arena (worker_from worker + worker_length) ≡ w.length →
+    with_moved arena worker w ≡ with_worker arena worker w
+unfolding with_moved with_worker
+moved_written arena worker w operation key length =
+    rw (add-zero, past)
+    (sym (sets_between (w.operation ∷ w.key ∷ []) (w.pred ∷ w.curr ∷ w.spare ∷ w.answer ∷ []) (w.length ∷ []) staged (suc from) before after))
+  where
+    from : ℕ
+    from = worker_from worker
+
+    staged : List ℕ
+    staged = set arena from w.stage
+
+    past : from + worker_pred ≡ suc from + 2
+    past = omega arith
+
+    behind : (at field : ℕ) {v : ℕ} → at ≡ suc from + field → word arena (from + suc field) ≡ v → word staged at ≡ v
+    behind at field e stands =
+        let place : at ≡ from + suc field = omega arith in
+        rw place (get_or-set_other arena from (from + suc field) w.stage 0 (λ same. omega arith) ∙ stands)
+
+    before : Stands staged (suc from) (w.operation ∷ w.key ∷ [])
+    before zero h = behind (suc from + 0) 0 refl operation
+    before (suc zero) h = behind (suc from + 1) 1 refl key
+    before (suc (suc k)) h = absurd (omega arith)
+
+    after : Stands staged (suc from + 2 + 4) (w.length ∷ [])
+    after zero h = behind (suc from + 2 + 4 + 0) 6 (omega arith) length
+    after (suc k) h = absurd (omega arith)

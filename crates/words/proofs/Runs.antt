@@ -79,6 +79,28 @@ sets_run (suc n) l i k =
     ap (λ words. sets words (suc (i + k)) (run l i (suc k) n)) (set-get_or l (i + k) 0)
     ∙ subst (λ at. sets l at (run l i (suc k) n) ≡ l) (add-suc i k) (sets_run n l i (suc k))
 
+-- some words stand at a place already, so they need not be written
+abbrev pub Stands : List ℕ → ℕ → List ℕ → Type 0
+Stands l i vs = (k : ℕ) → k < length vs → word l (i + k) ≡ word vs k
+
+pub sets_standing : (vs l : List ℕ) (i : ℕ) → Stands l i vs → sets l i vs ≡ l
+sets_standing [] l i stands = refl
+sets_standing (v ∷ vs) l i stands =
+    let first : word l i ≡ v = rw add-zero at (stands 0 (omega arith)) in
+    ap (λ words. sets words (suc i) vs) (ap (set l i) (sym first) ∙ set-get_or l i 0)
+    ∙ sets_standing vs l (suc i) (λ k h. rw (suc-add, ← add-suc) (stands (suc k) (omega arith)))
+
+-- nor do those at both ends of a run
+pub sets_between : (before vs after l : List ℕ) (i : ℕ) → Stands l i before → Stands l (i + length before + length vs) after →
+    sets l i (before ++ (vs ++ after)) ≡ sets l (i + length before) vs
+sets_between before vs after l i stand_before stand_after =
+    let from = i + length before in
+    sets_append before (vs ++ after) l i
+    ∙ ap (λ words. sets words from (vs ++ after)) (sets_standing before l i stand_before)
+    ∙ sets_append vs after l from
+    ∙ sets_standing after (sets l from vs) (from + length vs)
+    (λ k h. sets_outside vs l from (from + length vs + k) (λ j g e. omega arith) ∙ stand_after k h)
+
 -- a run within some words is written there, whatever stands behind them
 pub sets_front : (vs l more : List ℕ) (i : ℕ) → i + length vs ≤ length l → sets (l ++ more) i vs ≡ sets l i vs ++ more
 sets_front [] l more i h = refl

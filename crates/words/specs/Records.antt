@@ -1,5 +1,5 @@
 -- Worker and node records as words of an arena.
-use Rattle.std.specs.Prelude.{ℕ, ◌+◌, ◌*◌, ◌≤◌, ◌<◌, ◌≡◌, ◌⊎◌, List, [], ◌∷◌, Option, Some, None, cond, length, ltb}
+use Rattle.std.specs.Prelude.{ℕ, ◌+◌, ◌*◌, ◌≤◌, ◌<◌, ◌≡◌, ◌⊎◌, List, [], ◌∷◌, Option, Some, None, cond, length, set, ltb}
 use Rattle.std.proofs.lemmas.List.Edits.{sets}
 use Rattle.worker.specs.declared.Node.{Node}
 use Rattle.worker.specs.declared.Worker.{Worker}
@@ -27,6 +27,12 @@ worker_at arena worker =
 -- the arena with the record of a worker written
 unfoldable pub with_worker : List ℕ → ℕ → Worker → List ℕ
 with_worker arena worker w = sets arena (worker_from worker) (worker_words w)
+
+-- and of a record only what a move may change: stage, pred, curr, spare, answer
+unfoldable pub with_moved : List ℕ → ℕ → Worker → List ℕ
+with_moved arena worker w =
+    let at = worker_from worker in
+    sets (set arena (at + worker_stage) w.stage) (at + worker_pred) (w.pred ∷ w.curr ∷ w.spare ∷ w.answer ∷ [])
 
 -- a place outside the record of a worker: a start writes no such word (`StartLaws.start_writes` of `arena`)
 abbrev pub Outside : ℕ → ℕ → Type 0
@@ -59,6 +65,6 @@ node_at nodes node = node_read nodes (node_width * node)
 abbrev pub Spans : ℕ → List ℕ → Type 0
 Spans count nodes = (length nodes ≡ node_width * count) × (count ≤ 1024)
 
--- of nodes by their number, the first so many of which there are: the node of a number, if there is one
-abbrev pub node_found : (ℕ → Node) → ℕ → ℕ → Option Node
-node_found nodes count node = cond (ltb node count) (Some (nodes node)) None
+-- of nodes or workers by their number, the first so many of which there are: the one of a number, if there is one
+abbrev pub found : {A : Type 0} → (ℕ → A) → ℕ → ℕ → Option A
+found all count number = cond (ltb number count) (Some (all number)) None

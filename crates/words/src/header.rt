@@ -1,7 +1,7 @@
 // An arena behind the header test, which every entry point but init begins with.
 ghost use Rattle.std.specs.Prelude.{◌≡◌, ◌≤◌, [], length, true, IfOk, IfSome, is_some};
 ghost use Rattle.words.specs.Layout.{header_width, workers_of, nodes_of, stored_of, good_counts, node_part};
-ghost use Rattle.words.specs.Records.{worker_at};
+ghost use Rattle.words.specs.Records.{worker_at, found};
 ghost use Rattle.words.specs.Replies.{accepted, no_values, reply, replied};
 ghost use Rattle.words.specs.Header.{agrees, is_short, is_header, is_old_header, header_refusals};
 
@@ -49,10 +49,14 @@ impl<'a> Arena<'a> {
         word(self.words, layout::STORED_AT)
     }
 
-    pub fn worker(self, number: u16) -> Worker
-        ensures { result ≡ worker_at self.entry.words.now number }
+    // A worker's record, if there is one of that number. Its words are there, so no index is tested.
+    pub fn worker(self, number: u16) -> Option<Worker>
+        ensures { result ≡ found (worker_at self.entry.words.now) (workers_of self.entry.words.now) number }
     {
-        records::read_worker(self.words, number)
+        if self.worker_count() <= number {
+            return None;
+        }
+        Some(records::read_whole_worker(self.words, number))
     }
 
     // The node records, where the header places them.

@@ -1,7 +1,7 @@
 // Worker and node records, read from and written to words.
-ghost use Rattle.std.specs.Prelude.{◌+◌, ◌≡◌, set};
-ghost use Rattle.words.specs.Records.{Spans, worker_words, worker_at, with_worker, with_node, node_at, node_found};
-ghost use Rattle.words.specs.Layout.{word, worker_from, node_from};
+ghost use Rattle.std.specs.Prelude.{◌+◌, ◌≡◌, ◌≤◌, length, set};
+ghost use Rattle.words.specs.Records.{Spans, worker_words, worker_at, with_worker, with_moved, with_node, node_at, found};
+ghost use Rattle.words.specs.Layout.{word, worker_from, worker_width, node_from, node_width, slot};
 
 use crate::{layout, put, word, write};
 use worker::{Node, Worker};
@@ -29,9 +29,19 @@ pub fn worker_field(arena: &[u16], number: u16, field: u16) -> u16
     word(arena, layout::worker_from(number) + (field as usize))
 }
 
-// Field by field, as it stands behind the header: as a `Record` its words would first be cut from the arena's.
-#[tactic(auto, unfolding(crate::specs::Records::worker_at))]
+// A worker's record, with zeros where words are missing. Where all of it is there, one test tells so.
 pub fn read_worker(arena: &[u16], number: u16) -> Worker
+    ensures { result ≡ worker_at arena.now number }
+{
+    if arena.len() < layout::worker_from(number) + layout::WORKER_WIDTH {
+        return read_short_worker(arena, number);
+    }
+    read_whole_worker(arena, number)
+}
+
+#[cold]
+#[tactic(auto, unfolding(crate::specs::Records::worker_at))]
+fn read_short_worker(arena: &[u16], number: u16) -> Worker
     ensures { result ≡ worker_at arena.now number }
 {
     Worker {
@@ -46,12 +56,42 @@ pub fn read_worker(arena: &[u16], number: u16) -> Worker
     }
 }
 
+// As a `Record` its words would first be cut from the arena's.
+#[tactic(auto, unfolding(crate::specs::Records::worker_at))]
+pub(crate) fn read_whole_worker(arena: &[u16], number: u16) -> Worker
+    requires { worker_from number + worker_width ≤ length arena.now }
+    ensures { result ≡ worker_at arena.now number }
+{
+    let at = layout::worker_from(number);
+    Worker {
+        stage: arena[at],
+        operation: arena[at + 1],
+        key: arena[at + 2],
+        pred: arena[at + 3],
+        curr: arena[at + 4],
+        spare: arena[at + 5],
+        answer: arena[at + 6],
+        length: arena[at + 7],
+    }
+}
+
 #[tactic(auto, unfolding(crate::specs::Records::with_worker))]
 pub fn write_worker(arena: &mut [u16], number: u16, worker: Worker)
     ensures { arena.new ≡ with_worker arena.old number worker }
 {
     let words = worker_words(worker);
     write(arena, layout::worker_from(number), &words);
+}
+
+// The words of a worker's record that a move may change.
+#[tactic(auto, unfolding(crate::specs::Records::with_moved))]
+pub fn write_moved(arena: &mut [u16], number: u16, worker: Worker)
+    ensures { arena.new ≡ with_moved arena.old number worker }
+{
+    let at = layout::worker_from(number);
+    put(arena, at + (layout::WORKER_STAGE as usize), worker.stage);
+    let words = [worker.pred, worker.curr, worker.spare, worker.answer];
+    write(arena, at + (layout::WORKER_PRED as usize), &words);
 }
 
 // Where a field of a node stands in an arena.
@@ -97,21 +137,29 @@ impl<'a> Nodes<'a> {
         self.find(node).unwrap_or(Node::unused())
     }
 
-    // A node, if there is one of that number. Its words are there, so no index is tested.
-    #[tactic(auto, unfolding(crate::specs::Records::node_at))]
+    // A node, if there is one of that number.
     pub fn find(self, node: u16) -> Option<Node>
-        ensures { result ≡ node_found (node_at self.entry.words.now) self.entry.count node }
+        ensures { result ≡ found (node_at self.entry.words.now) self.entry.count node }
     {
         if self.count <= node {
             return None;
         }
-        let at = layout::slot(node, layout::NODE_KEY);
-        Some(Node {
-            key: self.words[at],
-            next: self.words[at + 1],
-            mark: self.words[at + 2],
-            owner: self.words[at + 3],
-            length: self.words[at + 4],
-        })
+        Some(read_node(self.words, node))
+    }
+}
+
+// A node of the node records. Its words are there, so no index is tested.
+#[tactic(auto, unfolding(crate::specs::Records::node_at))]
+fn read_node(nodes: &[u16], node: u16) -> Node
+    requires { slot node_width node node_width ≤ length nodes.now }
+    ensures { result ≡ node_at nodes.now node }
+{
+    let at = layout::slot(node, layout::NODE_KEY);
+    Node {
+        key: nodes[at],
+        next: nodes[at + 1],
+        mark: nodes[at + 2],
+        owner: nodes[at + 3],
+        length: nodes[at + 4],
     }
 }

@@ -9,7 +9,7 @@ use Rattle.std.specs.Prelude.{Option, Some, None}
 use Rattle.worker.specs.Worker.{add}
 use Rattle.worker.specs.Stages.{reports, takes, stage_table, step_of, growth_at}
 use Rattle.worker.specs.declared.Worker.{Worker}
-use Rattle.worker.specs.declared.report.Seen.{Seen}
+use Rattle.worker.specs.Seen.{Seen}
 use Rattle.worker.specs.declared.report.Report.TheVariants.{Idle}
 use Rattle.worker.specs.declared.report.Step.{Step}
 use Rattle.worker.specs.declared.report.Growth.{Growth}

@@ -13,7 +13,7 @@ use Rattle.worker.specs.Stages.{with_stage, reports, goes, to, denies, takes, st
 use Rattle.worker.specs.Turn.{placed, busy_refusals, turn_refusals, turn_of}
 use Rattle.worker.specs.declared.Worker.{Worker}
 use Rattle.std.specs.Prelude.{Option, Some, None}
-use Rattle.worker.specs.declared.report.Seen.{Seen}
+use Rattle.worker.specs.Seen.{Seen}
 use Rattle.worker.specs.declared.report.Report.TheVariants.{Idle, Waits}
 use Rattle.worker.specs.declared.report.Step.{Step}
 use Rattle.worker.specs.declared.report.Effect.{Effect}

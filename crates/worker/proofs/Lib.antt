@@ -5,5 +5,5 @@ pub mod ReportLaws
 pub mod Tables
 pub mod TurnLaws
 pub mod EffectLaws
-pub mod StillLaws
+pub mod WrittenLaws
 pub mod CountLaws

@@ -10,7 +10,7 @@ use Rattle.worker.specs.declared.refusal.Refusal.{Refusal}
 use Rattle.worker.specs.Stages.{reports, stage_table, step_of}
 use Rattle.worker.specs.Turn.{turn_refusals, turn_of}
 use Rattle.worker.specs.declared.Worker.{Worker}
-use Rattle.worker.specs.declared.report.Seen.{Seen}
+use Rattle.worker.specs.Seen.{Seen}
 use Rattle.worker.specs.declared.report.Report.TheVariants.{Idle}
 use Rattle.worker.specs.declared.report.Step.{Step}
 use Rattle.worker.proofs.RefusalLaws.{NoneHolds, judged_passed}

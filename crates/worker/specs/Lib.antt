@@ -3,5 +3,6 @@ pub mod Node
 pub mod Worker
 pub mod Refusals
 pub mod Report
+pub mod Seen
 pub mod Stages
 pub mod Turn

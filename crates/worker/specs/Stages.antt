@@ -4,7 +4,7 @@ use Rattle.worker.specs.Node.{head}
 use Rattle.worker.specs.Worker.{add, idle_worker}
 use Rattle.worker.specs.Report.{answer_number, numbered_answer}
 use Rattle.worker.specs.declared.Worker.{Worker}
-use Rattle.worker.specs.declared.report.Seen.{Seen}
+use Rattle.worker.specs.Seen.{Seen}
 use Rattle.worker.specs.declared.report.Step.{Step}
 use Rattle.worker.specs.declared.report.Answer.TheVariants.{Yes, No, Full}
 use Rattle.worker.specs.declared.report.Report.{Report}

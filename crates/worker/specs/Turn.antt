@@ -4,7 +4,7 @@ use Rattle.worker.specs.Worker.{within, is_key, add, remove, contains, idle_stag
 use Rattle.worker.specs.Refusals.{Test, judged}
 use Rattle.worker.specs.Stages.{step_of}
 use Rattle.worker.specs.declared.Worker.{Worker}
-use Rattle.worker.specs.declared.report.Seen.{Seen}
+use Rattle.worker.specs.Seen.{Seen}
 use Rattle.worker.specs.declared.report.Step.{Step}
 use Rattle.worker.specs.declared.refusal.Refusal.{Refusal}
 use Rattle.worker.specs.declared.refusal.Refusal.TheVariants.{BrokenRecord, BrokenChain}
@@ -47,15 +47,17 @@ astray w seen =
     (eqb w.stage 2 && leb seen.count seen.pred.next)
     || ((eqb w.stage 5 || eqb w.stage 17 || eqb w.stage 24) && leb seen.count seen.curr.next)
 
--- broken record: the stage; the operation; the key or the answer; a node number. Then broken chain
+-- broken record: a node number. Then broken chain
+abbrev pub node_refusals : Worker → Seen → List Test
+node_refusals w seen = (not (placed w seen.count), BrokenRecord) ∷ (astray w seen, BrokenChain) ∷ []
+
+-- broken record: the stage; the operation; the key or the answer. Then those of its nodes
 unfoldable pub busy_refusals : Worker → Seen → List Test
 busy_refusals w seen =
     (ltb last_stage w.stage, BrokenRecord)
     ∷ (not (belongs w.stage w.operation), BrokenRecord)
     ∷ (not (kept w), BrokenRecord)
-    ∷ (not (placed w seen.count), BrokenRecord)
-    ∷ (astray w seen, BrokenChain)
-    ∷ []
+    ∷ node_refusals w seen
 
 -- stage 0 is idle, whatever else stands in the record
 unfoldable pub turn_refusals : Worker → Seen → List Test

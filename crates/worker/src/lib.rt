@@ -7,11 +7,13 @@ ghost use Rattle.worker.specs.Worker.{within, is_key, is_length, carries, is_cal
 
 mod refusal;
 mod report;
+mod sight;
 mod stages;
 mod turn;
 
 pub use refusal::Refusal;
-pub use report::{Answer, Effect, Growth, Report, Seen, Step};
+pub use report::{Answer, Effect, Growth, Report, Step};
+pub use sight::Sight;
 
 // Document 01's node record, and document 02's length. Numbers and no options, as its words are lent memory's and may be anything.
 #[derive(Clone, Copy, Debug, PartialEq, Eq)]
@@ -93,13 +95,10 @@ impl Worker {
 
     pub const CONTAINS: u16 = 3;
 
-    // Stages, by document 01's form numbers too: idle, the first of add and remove, the one that takes a free node, the first of contains, the
-    // last of all.
+    // Stages, by document 01's form numbers too: idle, the first of add and remove, the first of contains, the last of all.
     pub const IDLE_STAGE: u16 = 0;
 
     pub const SEARCH_STAGE: u16 = 1;
-
-    pub const TAKE_STAGE: u16 = 14;
 
     pub const LOOK_UP_STAGE: u16 = 22;
 

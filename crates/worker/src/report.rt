@@ -1,18 +1,8 @@
-// What a turn sees of the nodes, what it reports, and what it does to them.
+// What a turn reports, and what it does to the nodes.
 ghost use Rattle.std.specs.Prelude.{◌≡◌};
 ghost use Rattle.worker.specs.Report.{answer_number, numbered_answer};
 
-use crate::{Node, Worker};
-
-// What a turn sees besides the worker's own record: how many nodes there are, the nodes that pred and curr name, and, at the stage
-// that takes one, a free node.
-#[derive(Clone, Copy, Debug, PartialEq, Eq)]
-pub struct Seen {
-    pub count: u16,
-    pub pred: Node,
-    pub curr: Node,
-    pub free: Option<u16>,
-}
+use crate::Worker;
 
 // What a call answers.
 #[derive(Clone, Copy, Debug, PartialEq, Eq)]
