@@ -12,25 +12,22 @@ pub(crate) struct View<'a> {
     pub(crate) state: Worker,
 }
 
+#[tactic(auto, unfolding(crate::specs::Turn::seen_by, crate::specs::Turn::seen_of))]
 impl<'a> Sight for View<'a> {
     ghost seen = { λ view. seen_by view.arena.words.now view.state };
 
-    #[tactic(auto, unfolding(crate::specs::Turn::seen_by, crate::specs::Turn::seen_of))]
     fn count(self) -> u16 {
         self.arena.nodes().count
     }
 
-    #[tactic(auto, unfolding(crate::specs::Turn::seen_by, crate::specs::Turn::seen_of))]
     fn pred(self) -> Node {
         self.arena.nodes().get(self.state.pred)
     }
 
-    #[tactic(auto, unfolding(crate::specs::Turn::seen_by, crate::specs::Turn::seen_of))]
     fn curr(self) -> Node {
         self.arena.nodes().get(self.state.curr)
     }
 
-    #[tactic(auto, unfolding(crate::specs::Turn::seen_by, crate::specs::Turn::seen_of))]
     fn free(self) -> Option<u16> {
         free::search(self.arena).free
     }

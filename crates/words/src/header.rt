@@ -49,7 +49,7 @@ impl<'a> Arena<'a> {
         word(self.words, layout::STORED_AT)
     }
 
-    // A worker's record, if there is one of that number. Its words are there, so no index is tested.
+    /// A worker's record, if there is one of that number. Its words are there, so no index is tested.
     pub fn worker(self, number: u16) -> Option<Worker>
         ensures { result ≡ found (worker_at self.entry.words.now) (workers_of self.entry.words.now) number }
     {

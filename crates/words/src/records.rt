@@ -29,7 +29,7 @@ pub fn worker_field(arena: &[u16], number: u16, field: u16) -> u16
     word(arena, layout::worker_from(number) + (field as usize))
 }
 
-// A worker's record, with zeros where words are missing. Where all of it is there, one test tells so.
+/// A worker's record, with zeros where words are missing. Where all of it is there, one test tells so.
 pub fn read_worker(arena: &[u16], number: u16) -> Worker
     ensures { result ≡ worker_at arena.now number }
 {
@@ -83,7 +83,7 @@ pub fn write_worker(arena: &mut [u16], number: u16, worker: Worker)
     write(arena, layout::worker_from(number), &words);
 }
 
-// The words of a worker's record that a move may change.
+/// The words of a worker's record that a move may change: stage, pred, curr, spare, answer.
 #[tactic(auto, unfolding(crate::specs::Records::with_moved))]
 pub fn write_moved(arena: &mut [u16], number: u16, worker: Worker)
     ensures { arena.new ≡ with_moved arena.old number worker }

@@ -1,4 +1,4 @@
-// A worker's turn: the refusals of its record and of the chain, else the step of its stage. A match on the stage number is document 01's form.
+// A worker's turn: what its record is refused for, then its stage. The stages that are refused, and the operations that belong, by ranges.
 ghost use Rattle.std.specs.Prelude.{◌≡◌, ◌≤◌};
 ghost use Rattle.worker.specs.Turn.{belongs, kept, turn_of};
 
@@ -6,8 +6,8 @@ use crate::report::{Report, Step};
 use crate::{Refusal, Sight, Worker, is_key, is_within};
 
 impl Worker {
-    // One turn: the next worker, the report, and the one effect on the nodes. `owner` is the worker's owner word, no part of what it sees.
-    // An idle turn is reported here, so that `step` has one caller and is compiled into it.
+    /// One turn: the next worker, the report, the one effect on the nodes, and what it does to the count. `owner` is the worker's owner word, no
+    /// part of what it sees.
     #[tactic(auto, unfolding(crate::specs::Turn::turn_of, crate::specs::Turn::turn_refusals, crate::specs::Turn::busy_refusals, crate::specs::Stages::step_of))]
     #[inline(always)]
     pub fn turn<S: Sight>(self, owner: u16, sight: S) -> Result<Step, Refusal>
