@@ -30,8 +30,7 @@ use Rattle.std.specs.Prelude.{Result, Ok, Err}
 use Rattle.worker.proofs.RefusalLaws.{NoneHolds, judged_append, none_accepts}
 use Rattle.worker.proofs.ReportLaws.{report_told}
 use Rattle.worker.proofs.TurnLaws.{judged_done, done_step, step_row}
-use Rattle.worker.proofs.WrittenLaws.{Writes, step_written, still_step}
-use Rattle.worker.proofs.CountLaws.{step_grows}
+use Rattle.worker.proofs.StepLaws.{Writes, step_written, step_grows, still_step}
 use Rattle.words.specs.Layout.{word, worker_width, worker_from, worker_operation, worker_key, worker_length, workers_of, nodes_of, stored_of, stored_at, node_from, node_key, node_next, node_mark, node_owner}
 use Rattle.words.specs.Records.{worker_at, with_worker, with_moved, node_words, with_node, Outside}
 use Rattle.words.specs.Replies.{refused, accepted, refusing, reply}

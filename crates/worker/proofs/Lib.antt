@@ -5,5 +5,4 @@ pub mod ReportLaws
 pub mod Tables
 pub mod TurnLaws
 pub mod EffectLaws
-pub mod WrittenLaws
-pub mod CountLaws
+pub mod StepLaws

@@ -153,6 +153,6 @@ module _ (w : Worker) (owner : ℕ) (seen : Seen) where
   unfoldable pub step_of : Step
   step_of = get_or stage_table w.stage (reports w Idle)
 
--- document 02's words on the count: stage 15 adds one, stage 16 takes one away, no other stage changes it (`CountLaws.step_grows`)
+-- document 02's words on the count: stage 15 adds one, stage 16 takes one away, no other stage changes it (`StepLaws.step_grows`)
 abbrev pub growth_at : ℕ → Growth
 growth_at stage = cond (eqb stage 15) OneMore (cond (eqb stage 16) OneLess Stays)
