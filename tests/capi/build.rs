@@ -1,8 +1,44 @@
-//! Links the proved library, which `rt lib` in crates/capi has written.
+//! Links the proved library, which `rt lib` in crates/capi has written, and the plain C of c/, which is compiled here.
+
+use std::env;
+use std::path::Path;
+use std::process::Command;
+
+/// Folder of this package.
+const HERE: &str = env!("CARGO_MANIFEST_DIR");
+
+/// For the same processor as the other sides.
+const FLAGS: &str = "-std=c99 -O2 -march=x86-64-v2 -fPIE -Wall -Wextra -Wpedantic -Werror -c";
 
 fn main() {
-    let folder = concat!(env!("CARGO_MANIFEST_DIR"), "/../../crates/capi/out");
-    println!("cargo::rustc-link-search=native={folder}");
+    let proved = format!("{HERE}/../../crates/capi/out");
+    println!("cargo::rustc-link-search=native={proved}");
     println!("cargo::rustc-link-lib=static=capi");
-    println!("cargo::rerun-if-changed={folder}/libcapi.a");
+    println!("cargo::rerun-if-changed={proved}/libcapi.a");
+    let out = env::var("OUT_DIR").expect("cargo gives it");
+    compile_plain_c(Path::new(&out));
+    println!("cargo::rustc-link-search=native={out}");
+    println!("cargo::rustc-link-lib=static=plain_list");
+}
+
+fn compile_plain_c(out: &Path) {
+    let include = format!("{HERE}/../../include");
+    println!("cargo::rerun-if-changed={HERE}/c");
+    println!("cargo::rerun-if-changed={include}");
+    let archive = out.join("libplain_list.a");
+    let mut ar = Command::new("ar");
+    ar.arg("crs").arg(&archive);
+    for name in ["free_node", "start", "turn"] {
+        let object = out.join(format!("{name}.o"));
+        let mut cc = Command::new("cc");
+        cc.args(FLAGS.split(' ')).arg(format!("-I{include}"));
+        run(cc.arg(format!("{HERE}/c/{name}.c")).arg("-o").arg(&object));
+        ar.arg(object);
+    }
+    run(&mut ar);
+}
+
+fn run(command: &mut Command) {
+    let status = command.status().expect("cc and ar are there");
+    assert!(status.success(), "{command:?}: {status}");
 }

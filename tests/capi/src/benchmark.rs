@@ -2,6 +2,7 @@
 
 pub mod inputs;
 pub mod measure;
+pub mod plain_c;
 pub mod plain_rust;
 pub mod tables;
 pub mod workloads;
