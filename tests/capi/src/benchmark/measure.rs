@@ -1,14 +1,15 @@
-//! Timing the same work on both sides, in short rounds by turns, and comparing what they did.
+//! Timing the same work on all sides, in short rounds by turns, and comparing what they did.
 
 use std::fmt;
 use std::hint::black_box;
 use std::time::{Duration, Instant};
 
+use crate::benchmark::plain_c::PlainC;
 use crate::benchmark::plain_rust::PlainRust;
 use crate::library::{Library, Proved};
 
 /// A round takes about this long on each side: short, so that a change of the machine's speed meets
-/// both sides alike, and long beside a reading of the clock.
+/// all sides alike, and long beside a reading of the clock.
 const ROUND: Duration = Duration::from_millis(2);
 
 /// All words that a side is lent.
@@ -35,7 +36,7 @@ impl Words {
         }
     }
 
-    /// Keeps the place in memory, so that both sides work at the same addresses.
+    /// Keeps the place in memory, so that all sides work at the same addresses.
     fn reset(&mut self, first: &Words) {
         self.arena.copy_from_slice(&first.arena);
         self.out.copy_from_slice(&first.out);
@@ -45,7 +46,7 @@ impl Words {
     }
 }
 
-/// Work that either side can do.
+/// Work that each side can do, or each but plain C.
 pub trait Workload {
     /// The lent words before each pass.
     fn words(&self) -> &Words;
@@ -53,8 +54,57 @@ pub trait Workload {
     /// How many operations a pass makes; times are given for one.
     fn operations(&self) -> usize;
 
+    /// Whether it is made of starts and turns alone, which plain C has too.
+    fn is_in_c(&self) -> bool;
+
     /// The timed part. It hands on every reply.
     fn pass<L: Library>(&self, library: &L, words: &mut Words, reply: impl FnMut(u64));
+}
+
+/// Who does the work.
+#[derive(Clone, Copy)]
+pub enum Side {
+    Proved,
+    Rust,
+    C,
+}
+
+impl Side {
+    fn of(work: &impl Workload) -> &'static [Side] {
+        if work.is_in_c() {
+            &[Side::Proved, Side::Rust, Side::C]
+        } else {
+            &[Side::Proved, Side::Rust]
+        }
+    }
+
+    /// The time of so many passes.
+    fn time(self, work: &impl Workload, words: &mut Words, passes: u32) -> Duration {
+        match self {
+            Side::Proved => time_passes(work, &Proved, words, passes),
+            Side::Rust => time_passes(work, &PlainRust, words, passes),
+            Side::C => time_passes(work, &PlainC, words, passes),
+        }
+    }
+
+    /// The replies of a pass and the words that it leaves.
+    fn record(self, work: &impl Workload) -> (Vec<u64>, Words) {
+        match self {
+            Side::Proved => recorded(work, &Proved),
+            Side::Rust => recorded(work, &PlainRust),
+            Side::C => recorded(work, &PlainC),
+        }
+    }
+}
+
+impl fmt::Display for Side {
+    fn fmt(&self, out: &mut fmt::Formatter) -> fmt::Result {
+        out.write_str(match self {
+            Side::Proved => "the proved library",
+            Side::Rust => "plain Rust",
+            Side::C => "plain C",
+        })
+    }
 }
 
 /// Nanoseconds for an operation on each side, in the best round.
@@ -62,69 +112,82 @@ pub trait Workload {
 pub struct Times {
     pub proved: f64,
     pub rust: f64,
+    /// Where plain C has the calls.
+    pub c: Option<f64>,
 }
 
 impl Times {
-    pub fn ratio(self) -> f64 {
+    /// How long the proved library takes beside plain Rust.
+    pub fn of_rust(self) -> f64 {
         self.proved / self.rust
+    }
+
+    /// The same beside plain C.
+    pub fn of_c(self) -> Option<f64> {
+        self.c.map(|c| self.proved / c)
     }
 
     /// The times of a part of an operation, where it has so many alike.
     pub fn shared_by(self, parts: usize) -> Times {
+        let parts = parts as f64;
         Times {
-            proved: self.proved / parts as f64,
-            rust: self.rust / parts as f64,
+            proved: self.proved / parts,
+            rust: self.rust / parts,
+            c: self.c.map(|c| c / parts),
         }
     }
 }
 
-/// The sides did not do the same, so their times say nothing.
+/// A side did not do what the proved library did, so their times say nothing.
 #[derive(Clone, Copy)]
 pub enum Difference {
-    Replies,
-    Words,
+    Replies(Side),
+    Words(Side),
 }
 
 impl fmt::Display for Difference {
     fn fmt(&self, out: &mut fmt::Formatter) -> fmt::Result {
-        out.write_str(match self {
-            Difference::Replies => "the two sides reply differently",
-            Difference::Words => "the two sides leave different words",
-        })
+        let proved = Side::Proved;
+        match self {
+            Difference::Replies(side) => write!(out, "{side} and {proved} reply differently"),
+            Difference::Words(side) => write!(out, "{side} and {proved} leave different words"),
+        }
     }
 }
 
 pub type Measured = Result<Times, Difference>;
 
-/// Compares one pass, then times rounds of both sides by turns.
+/// Compares one pass, then times rounds of all sides by turns.
 pub fn measure(work: &impl Workload, rounds: usize) -> Measured {
     compare(work)?;
+    let sides = Side::of(work);
     let mut words = work.words().clone();
     let passes = passes_in_a_round(work, &mut words);
-    let mut best = [Duration::MAX; 2];
+    let mut best = [Duration::MAX; 3];
     for round in 0..rounds {
-        // Neither side is always the first one.
-        for side in [round % 2, 1 - round % 2] {
-            let time = match side {
-                0 => time_passes(work, &Proved, &mut words, passes),
-                _ => time_passes(work, &PlainRust, &mut words, passes),
-            };
-            best[side] = time.min(best[side]);
+        for place in 0..sides.len() {
+            // No side is always the first one.
+            let at = (round + place) % sides.len();
+            let time = sides[at].time(work, &mut words, passes);
+            best[at] = time.min(best[at]);
         }
     }
     let operations = passes as f64 * work.operations() as f64;
-    let [proved, rust] = best.map(|time| time.as_secs_f64() * 1e9 / operations);
-    Ok(Times { proved, rust })
+    let [proved, rust, c] = best.map(|time| time.as_secs_f64() * 1e9 / operations);
+    let c = work.is_in_c().then_some(c);
+    Ok(Times { proved, rust, c })
 }
 
 fn compare(work: &impl Workload) -> Result<(), Difference> {
-    let (proved_replies, proved_words) = recorded(work, &Proved);
-    let (rust_replies, rust_words) = recorded(work, &PlainRust);
-    if proved_replies != rust_replies {
-        return Err(Difference::Replies);
-    }
-    if proved_words != rust_words {
-        return Err(Difference::Words);
+    let (proved_replies, proved_words) = Side::Proved.record(work);
+    for &side in Side::of(work) {
+        let (replies, words) = side.record(work);
+        if replies != proved_replies {
+            return Err(Difference::Replies(side));
+        }
+        if words != proved_words {
+            return Err(Difference::Words(side));
+        }
     }
     Ok(())
 }
@@ -136,9 +199,9 @@ fn recorded(work: &impl Workload, library: &impl Library) -> (Vec<u64>, Words) {
     (replies, words)
 }
 
-/// The same number for both sides.
+/// The same number for all sides.
 fn passes_in_a_round(work: &impl Workload, words: &mut Words) -> u32 {
-    let pass = time_passes(work, &PlainRust, words, 3) / 3;
+    let pass = Side::Rust.time(work, words, 3) / 3;
     (ROUND.as_nanos() / pass.as_nanos().max(1)).max(1) as u32
 }
 

@@ -2,7 +2,7 @@
 
 use std::ops::Range;
 
-use model::arena::WORKER_WORDS;
+use model::arena::{NODE_WORDS, WORKER_WORDS};
 use model::run::ENTRY_WORDS;
 
 use crate::benchmark::measure::{Words, Workload};
@@ -26,6 +26,10 @@ impl Workload for Entries {
         self.entries.len()
     }
 
+    fn is_in_c(&self) -> bool {
+        true
+    }
+
     fn pass<L: Library>(&self, library: &L, words: &mut Words, mut reply: impl FnMut(u64)) {
         for &[worker, operation, key, length] in &self.entries {
             let call = Start {
@@ -41,37 +45,86 @@ impl Workload for Entries {
     }
 }
 
+/// A call from its start to its finish, with nobody in its way.
+pub struct WholeCall {
+    pub worker: u16,
+    pub start: Start,
+    pub turns: usize,
+}
+
+/// Whole calls one after another. A turn is the operation; the starts are in its time.
+pub struct WholeCalls {
+    pub words: Words,
+    pub calls: Vec<WholeCall>,
+}
+
+impl Workload for WholeCalls {
+    fn words(&self) -> &Words {
+        &self.words
+    }
+
+    fn operations(&self) -> usize {
+        self.calls.iter().map(|call| call.turns).sum()
+    }
+
+    fn is_in_c(&self) -> bool {
+        true
+    }
+
+    fn pass<L: Library>(&self, library: &L, words: &mut Words, mut reply: impl FnMut(u64)) {
+        for call in &self.calls {
+            reply(library.start(&mut words.arena, call.worker, call.start));
+            for _ in 0..call.turns {
+                reply(library.turn(&mut words.arena, call.worker));
+            }
+        }
+    }
+}
+
 /// An arena filled from fresh, as one operation.
 pub struct Fill {
-    pub entries: Entries,
     /// The last one is answered full.
-    pub adds: usize,
+    pub adds: WholeCalls,
 }
 
 impl Workload for Fill {
     fn words(&self) -> &Words {
-        self.entries.words()
+        self.adds.words()
     }
 
     fn operations(&self) -> usize {
         1
     }
 
+    fn is_in_c(&self) -> bool {
+        self.adds.is_in_c()
+    }
+
     fn pass<L: Library>(&self, library: &L, words: &mut Words, reply: impl FnMut(u64)) {
-        self.entries.pass(library, words, reply);
+        self.adds.pass(library, words, reply);
     }
 }
 
-/// The same turn of worker 0 again and again. Its record and one node are put back each time; both
-/// sides pay for that alike.
-pub struct SameTurn {
+/// What a worker does again and again.
+pub enum Act {
+    Start(Start),
+    Turn,
+}
+
+/// The same start or turn again and again. What it changes, a worker's record and a node at most, is put
+/// back each time; all sides pay for that alike, a nanosecond or two.
+pub struct SameAct {
     pub words: Words,
-    pub worker_at: usize,
-    pub node: Range<usize>,
+    pub worker: u16,
+    pub act: Act,
+    /// Where the record stands, if it changes.
+    pub record_at: Option<usize>,
+    /// Where the node stands, if one changes.
+    pub node_at: Option<usize>,
     pub repeats: usize,
 }
 
-impl Workload for SameTurn {
+impl Workload for SameAct {
     fn words(&self) -> &Words {
         &self.words
     }
@@ -80,17 +133,31 @@ impl Workload for SameTurn {
         self.repeats
     }
 
+    fn is_in_c(&self) -> bool {
+        true
+    }
+
     fn pass<L: Library>(&self, library: &L, words: &mut Words, mut reply: impl FnMut(u64)) {
-        let worker = self.worker_at..self.worker_at + WORKER_WORDS;
-        let node = &self.node;
+        let (arena, first) = (&mut words.arena, &self.words.arena);
         for _ in 0..self.repeats {
-            // Before the turn, so that what the last turn wrote is there to be compared.
-            let first = &self.words.arena;
-            words.arena[worker.clone()].copy_from_slice(&first[worker.clone()]);
-            words.arena[node.clone()].copy_from_slice(&first[node.clone()]);
-            reply(library.turn(&mut words.arena, 0));
+            // Before the call, so that what the last one wrote is there to be compared.
+            if let Some(at) = self.record_at {
+                put_back::<WORKER_WORDS>(arena, first, at);
+            }
+            if let Some(at) = self.node_at {
+                put_back::<NODE_WORDS>(arena, first, at);
+            }
+            reply(match self.act {
+                Act::Start(call) => library.start(arena, self.worker, call),
+                Act::Turn => library.turn(arena, self.worker),
+            });
         }
     }
+}
+
+/// Of a number of words that the compiler knows, or copying would take longer than some calls.
+fn put_back<const COUNT: usize>(arena: &mut [u16], first: &[u16], at: usize) {
+    arena[at..at + COUNT].copy_from_slice(&first[at..at + COUNT]);
 }
 
 /// Whole runs, each of another schedule and with a history of its own.
@@ -111,6 +178,10 @@ impl Workload for Runs {
 
     fn operations(&self) -> usize {
         self.schedules.len()
+    }
+
+    fn is_in_c(&self) -> bool {
+        false
     }
 
     fn pass<L: Library>(&self, library: &L, words: &mut Words, mut reply: impl FnMut(u64)) {
@@ -151,26 +222,20 @@ pub enum Call {
     ToLayout1,
 }
 
-impl Call {
-    fn reply<L: Library>(&self, library: &L, words: &mut Words) -> u64 {
-        let (arena, out) = (&mut words.arena, &mut words.out);
-        match *self {
-            Call::Init { workers, nodes } => library.init(arena, workers, nodes),
-            Call::Snapshot => library.snapshot(arena, out),
-            Call::FindFree => library.find_free(arena),
-            Call::LongestFreeRun { last_cell } => library.longest_free_run(arena, last_cell),
-            Call::Stored => library.stored(arena),
-            Call::ToLayout2 => library.to_layout_2(arena, &mut words.lengths, out),
-            Call::ToLayout1 => library.to_layout_1(arena, out),
-        }
-    }
-}
-
 /// The same call again and again.
 pub struct Repeated {
     pub words: Words,
     pub call: Call,
     pub repeats: usize,
+}
+
+impl Repeated {
+    /// Called where it is known which call it is, so that no side finds that out again each time.
+    fn again(&self, mut reply: impl FnMut(u64), mut call: impl FnMut() -> u64) {
+        for _ in 0..self.repeats {
+            reply(call());
+        }
+    }
 }
 
 impl Workload for Repeated {
@@ -182,9 +247,29 @@ impl Workload for Repeated {
         self.repeats
     }
 
-    fn pass<L: Library>(&self, library: &L, words: &mut Words, mut reply: impl FnMut(u64)) {
-        for _ in 0..self.repeats {
-            reply(self.call.reply(library, words));
+    fn is_in_c(&self) -> bool {
+        false
+    }
+
+    fn pass<L: Library>(&self, library: &L, words: &mut Words, reply: impl FnMut(u64)) {
+        let Words {
+            arena,
+            out,
+            lengths,
+            ..
+        } = words;
+        match self.call {
+            Call::Init { workers, nodes } => {
+                self.again(reply, || library.init(arena, workers, nodes))
+            }
+            Call::Snapshot => self.again(reply, || library.snapshot(arena, out)),
+            Call::FindFree => self.again(reply, || library.find_free(arena)),
+            Call::LongestFreeRun { last_cell } => {
+                self.again(reply, || library.longest_free_run(arena, last_cell))
+            }
+            Call::Stored => self.again(reply, || library.stored(arena)),
+            Call::ToLayout2 => self.again(reply, || library.to_layout_2(arena, lengths, out)),
+            Call::ToLayout1 => self.again(reply, || library.to_layout_1(arena, out)),
         }
     }
 }

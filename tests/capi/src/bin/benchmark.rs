@@ -1,29 +1,26 @@
-//! Times the proved library beside plain Rust. No limit is set: it fails only if the two differ.
+//! Times the proved library beside plain Rust and plain C. No limit is set: it fails only if they differ.
 
 use std::process::ExitCode;
 
 use capi::benchmark::measure::{Measured, Times};
-use capi::benchmark::tables::{self, Operation, Row};
+use capi::benchmark::tables::{self, Operation, Row, SideBySide};
 
-const USAGE: &str = "usage: benchmark [--quick]";
+const USAGE: &str = "usage: benchmark [--quick | --ratios]";
 const ROUNDS: usize = 100;
 
 fn main() -> ExitCode {
     let words: Vec<String> = std::env::args().skip(1).collect();
     let words: Vec<&str> = words.iter().map(String::as_str).collect();
-    let rounds = match words[..] {
-        [] => ROUNDS,
-        ["--quick"] => ROUNDS / 10,
+    let mut differences = Vec::new();
+    match words[..] {
+        [] => print_tables(ROUNDS, &mut differences),
+        ["--quick"] => print_tables(ROUNDS / 10, &mut differences),
+        ["--ratios"] => print_ratios(&mut differences),
         _ => {
             eprintln!("{USAGE}");
             return ExitCode::from(2);
         }
-    };
-    let mut differences = Vec::new();
-    print_side_by_side(rounds, &mut differences);
-    print_by_nodes(rounds, &mut differences);
-    print_by_entries(rounds, &mut differences);
-    print_by_filling(rounds, &mut differences);
+    }
     for difference in &differences {
         println!("DIFFERENT: {difference}");
     }
@@ -41,40 +38,66 @@ fn times(what: &str, measured: Measured, differences: &mut Vec<String>) -> Optio
         .ok()
 }
 
+fn print_tables(rounds: usize, differences: &mut Vec<String>) {
+    print_side_by_side(rounds, differences);
+    print_by_nodes(rounds, differences);
+    print_by_entries(rounds, differences);
+    print_by_filling(rounds, differences);
+}
+
+/// The ratios of the first table alone, with tabs between them, for who compares several programs.
+fn print_ratios(differences: &mut Vec<String>) {
+    let show = &mut |row: Row| {
+        if let Some(times) = times(row.what, row.measured, differences) {
+            println!(
+                "{}\t{:.3}\t{}",
+                row.what,
+                times.of_rust(),
+                or_dash(times.of_c(), 3)
+            );
+        }
+    };
+    SideBySide {
+        rounds: ROUNDS,
+        show,
+    }
+    .all();
+}
+
 fn print_side_by_side(rounds: usize, differences: &mut Vec<String>) {
-    let columns = ["proved (ns)", "Rust (ns)", "proved / Rust"];
     let title = format!("best of {rounds} rounds");
-    println!("{title:<33}{}", headings(&columns));
+    let ratios = ["proved / Rust", "proved / C"].map(|name| format!("{name:>15}"));
+    println!("{title:<33}{}{}", headings(), ratios.concat());
     let mut figures = Vec::new();
-    tables::side_by_side(rounds, &mut |row: Row| {
+    let show = &mut |row: Row| {
         if let Some(whole) = times(row.what, row.measured, differences) {
             let shown = match row.operation {
                 Operation::Run { entries } => whole.shared_by(entries),
                 Operation::Turn | Operation::Other => whole,
             };
-            println!("{:<33}{}{:>15.2}", row.what, pair(shown), shown.ratio());
+            let (of_rust, of_c) = (shown.of_rust(), or_dash(shown.of_c(), 2));
+            println!("{:<33}{}{of_rust:>15.2}{of_c:>15}", row.what, cells(shown));
             figures.extend(figure(row.what, &row.operation, whole));
         }
-    });
+    };
+    SideBySide { rounds, show }.all();
     println!("\n{}\n", figures.join("\n"));
 }
 
 /// The same times in another unit, where one is usual.
 fn figure(what: &str, operation: &Operation, whole: Times) -> Option<String> {
-    let Times { proved, rust } = whole;
-    match operation {
-        Operation::Turn => Some(format!(
-            "{what}: proved {:.1}, Rust {:.1} million a second",
-            1e3 / proved,
-            1e3 / rust
-        )),
-        Operation::Run { entries } => Some(format!(
-            "{what}: proved {:.1}, Rust {:.1} microseconds for a run of {entries}",
-            proved / 1e3,
-            rust / 1e3
-        )),
-        Operation::Other => None,
-    }
+    let (unit, in_unit): (_, fn(f64) -> f64) = match operation {
+        Operation::Turn => ("million a second".into(), |time| 1e3 / time),
+        Operation::Run { entries } => (format!("microseconds for a run of {entries}"), |time| {
+            time / 1e3
+        }),
+        Operation::Other => return None,
+    };
+    let (proved, rust) = (in_unit(whole.proved), in_unit(whole.rust));
+    let c = or_dash(whole.c.map(in_unit), 1);
+    Some(format!(
+        "{what}: proved {proved:.1}, Rust {rust:.1}, C {c} {unit}"
+    ))
 }
 
 fn print_by_nodes(rounds: usize, differences: &mut Vec<String>) {
@@ -84,7 +107,7 @@ fn print_by_nodes(rounds: usize, differences: &mut Vec<String>) {
         print!("{nodes:<9}");
         for (kind, measured) in kinds.iter().zip(measured) {
             if let Some(times) = times(&format!("{kind}, {nodes} nodes"), measured, differences) {
-                print!("{}", pair(times));
+                print!("{}", cells(times));
             }
         }
         println!();
@@ -98,7 +121,7 @@ fn print_by_entries(rounds: usize, differences: &mut Vec<String>) {
         let what = format!("run of {entries} entries");
         if let Some(whole) = times(&what, measured, differences) {
             let part = whole.shared_by(entries);
-            println!("{entries:<9}{}{}", pair(whole), pair(part));
+            println!("{entries:<9}{}{}", cells(whole), cells(part));
         }
     });
     println!();
@@ -109,25 +132,30 @@ fn print_by_filling(rounds: usize, differences: &mut Vec<String>) {
     tables::by_filling(rounds, &mut |nodes, adds, measured| {
         let what = format!("filling {nodes} nodes");
         if let Some(whole) = times(&what, measured, differences) {
-            println!("{nodes:<9}{}{}", pair(whole), pair(whole.shared_by(adds)));
+            println!("{nodes:<9}{}{}", cells(whole), cells(whole.shared_by(adds)));
         }
     });
 }
 
-/// The two lines above a table with a pair of times of each kind.
+/// The two lines above a table with the times of each kind.
 fn growth_headings(by: &str, kinds: &[&str]) {
-    let above: String = kinds.iter().map(|kind| format!("{kind:>30}")).collect();
+    let above: String = kinds.iter().map(|kind| format!("{kind:>36}")).collect();
     println!("{:<9}{above}", "");
-    println!(
-        "{by:<9}{}",
-        headings(&["proved (ns)", "Rust (ns)"]).repeat(kinds.len())
-    );
+    println!("{by:<9}{}", headings().repeat(kinds.len()));
 }
 
-fn headings(columns: &[&str]) -> String {
-    columns.iter().map(|name| format!("{name:>15}")).collect()
+fn headings() -> String {
+    ["proved (ns)", "Rust (ns)", "C (ns)"]
+        .map(|name| format!("{name:>12}"))
+        .concat()
 }
 
-fn pair(times: Times) -> String {
-    format!("{:>15.2}{:>15.2}", times.proved, times.rust)
+fn cells(times: Times) -> String {
+    let c = or_dash(times.c, 2);
+    format!("{:>12.2}{:>12.2}{c:>12}", times.proved, times.rust)
+}
+
+/// With so many digits behind the point; a dash where there is no C.
+fn or_dash(number: Option<f64>, digits: usize) -> String {
+    number.map_or("-".into(), |number| format!("{number:.digits$}"))
 }
