@@ -1,4 +1,5 @@
-//! Links the proved library, which `rt lib` in crates/capi has written, and the plain C of c/, which is compiled here.
+//! Links the proved library, which `rt lib` in crates/capi has written or tests/aligned_library, and the plain C of c/, which is compiled
+//! here.
 
 use std::env;
 use std::path::Path;
@@ -10,18 +11,28 @@ const HERE: &str = env!("CARGO_MANIFEST_DIR");
 /// For the same processor as the other sides.
 const FLAGS: &str = "-std=c99 -O2 -march=x86-64-v2 -fPIE -Wall -Wextra -Wpedantic -Werror -c";
 
+/// As aligned.toml has it for the Rust side; gcc's assembler knows these words.
+const ALIGNED_FLAGS: &str = "-falign-functions=64 -Wa,-malign-branch-boundary=32 \
+                             -Wa,-malign-branch=fused+jcc+jmp+call+ret+indirect";
+
 fn main() {
-    let proved = format!("{HERE}/../../crates/capi/out");
+    let is_aligned = env::var_os("CARGO_FEATURE_ALIGNED").is_some();
+    let proved = if is_aligned {
+        format!("{HERE}/target/aligned")
+    } else {
+        format!("{HERE}/../../crates/capi/out")
+    };
     println!("cargo::rustc-link-search=native={proved}");
     println!("cargo::rustc-link-lib=static=capi");
     println!("cargo::rerun-if-changed={proved}/libcapi.a");
     let out = env::var("OUT_DIR").expect("cargo gives it");
-    compile_plain_c(Path::new(&out));
+    let more_flags = if is_aligned { ALIGNED_FLAGS } else { "" };
+    compile_plain_c(Path::new(&out), more_flags);
     println!("cargo::rustc-link-search=native={out}");
     println!("cargo::rustc-link-lib=static=plain_list");
 }
 
-fn compile_plain_c(out: &Path) {
+fn compile_plain_c(out: &Path, more_flags: &str) {
     let include = format!("{HERE}/../../include");
     println!("cargo::rerun-if-changed={HERE}/c");
     println!("cargo::rerun-if-changed={include}");
@@ -31,8 +42,11 @@ fn compile_plain_c(out: &Path) {
     for name in ["free_node", "start", "turn"] {
         let object = out.join(format!("{name}.o"));
         let mut cc = Command::new("cc");
-        cc.args(FLAGS.split(' ')).arg(format!("-I{include}"));
-        run(cc.arg(format!("{HERE}/c/{name}.c")).arg("-o").arg(&object));
+        cc.args(FLAGS.split_whitespace())
+            .args(more_flags.split_whitespace());
+        cc.arg(format!("-I{include}"))
+            .arg(format!("{HERE}/c/{name}.c"));
+        run(cc.arg("-o").arg(&object));
         ar.arg(object);
     }
     run(&mut ar);
