@@ -25,11 +25,13 @@ fn main() {
     println!("cargo::rustc-link-search=native={proved}");
     println!("cargo::rustc-link-lib=static=capi");
     println!("cargo::rerun-if-changed={proved}/libcapi.a");
+    println!("cargo::rustc-env=PROVED_ARCHIVE={proved}/libcapi.a");
     let out = env::var("OUT_DIR").expect("cargo gives it");
     let more_flags = if is_aligned { ALIGNED_FLAGS } else { "" };
     compile_plain_c(Path::new(&out), more_flags);
     println!("cargo::rustc-link-search=native={out}");
     println!("cargo::rustc-link-lib=static=plain_list");
+    println!("cargo::rustc-env=C_ARCHIVE={out}/libplain_list.a");
 }
 
 fn compile_plain_c(out: &Path, more_flags: &str) {

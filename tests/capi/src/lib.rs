@@ -2,4 +2,5 @@
 
 pub mod benchmark;
 pub mod differential;
+pub mod footprint;
 pub mod library;
