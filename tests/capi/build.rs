@@ -22,6 +22,7 @@ fn main() {
     } else {
         format!("{HERE}/../../crates/capi/out")
     };
+    check_rust_flags(is_aligned);
     println!("cargo::rustc-link-search=native={proved}");
     println!("cargo::rustc-link-lib=static=capi");
     println!("cargo::rerun-if-changed={proved}/libcapi.a");
@@ -32,6 +33,14 @@ fn main() {
     println!("cargo::rustc-link-search=native={out}");
     println!("cargo::rustc-link-lib=static=plain_list");
     println!("cargo::rustc-env=C_ARCHIVE={out}/libplain_list.a");
+}
+
+/// Cargo does not see the repository's .cargo/config.toml where it is called outside, and passes over it
+/// where RUSTFLAGS is set; then the sides would not be compiled alike.
+fn check_rust_flags(is_aligned: bool) {
+    let flags = env::var("CARGO_ENCODED_RUSTFLAGS").unwrap_or_default();
+    let is_alike = flags.contains("x86-64-v2") && flags.contains("-align-all") == is_aligned;
+    assert!(is_alike, "rustc gets other flags than it should: {flags}");
 }
 
 fn compile_plain_c(out: &Path, more_flags: &str) {
