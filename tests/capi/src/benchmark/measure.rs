@@ -15,6 +15,7 @@ const ROUND: Duration = Duration::from_millis(2);
 /// All words that a side is lent.
 #[derive(Clone, PartialEq, Eq)]
 pub struct Words {
+    /// Of either layout.
     pub arena: Vec<u16>,
     /// Room for the keys of a snapshot, for the histories of runs or for a converted arena.
     pub out: Vec<u16>,
@@ -22,10 +23,12 @@ pub struct Words {
     pub lengths: Vec<u16>,
     /// Room for the waits of runs.
     pub waits: Vec<u16>,
+    /// Of a run.
     pub totals: [u16; 4],
 }
 
 impl Words {
+    /// An arena and so many words beside it.
     pub fn new(arena: Vec<u16>, out_words: usize) -> Words {
         Words {
             arena,
@@ -64,8 +67,11 @@ pub trait Workload {
 /// Who does the work.
 #[derive(Clone, Copy)]
 pub enum Side {
+    /// The proved library.
     Proved,
+    /// `PlainRust`.
     Rust,
+    /// `PlainC`.
     C,
 }
 
@@ -110,7 +116,9 @@ impl fmt::Display for Side {
 /// Nanoseconds for an operation on each side, in the best round.
 #[derive(Clone, Copy)]
 pub struct Times {
+    /// Of the proved library.
     pub proved: f64,
+    /// Of plain Rust.
     pub rust: f64,
     /// Where plain C has the calls.
     pub c: Option<f64>,
@@ -127,6 +135,15 @@ impl Times {
         self.c.map(|c| self.proved / c)
     }
 
+    /// The better ones of two measurements.
+    fn best(self, other: Times) -> Times {
+        Times {
+            proved: self.proved.min(other.proved),
+            rust: self.rust.min(other.rust),
+            c: self.c.zip(other.c).map(|(one, two)| one.min(two)),
+        }
+    }
+
     /// The times of a part of an operation, where it has so many alike.
     pub fn shared_by(self, parts: usize) -> Times {
         let parts = parts as f64;
@@ -141,7 +158,9 @@ impl Times {
 /// A side did not do what the proved library did, so their times say nothing.
 #[derive(Clone, Copy)]
 pub enum Difference {
+    /// Its replies are others.
     Replies(Side),
+    /// The words that it leaves are others.
     Words(Side),
 }
 
@@ -155,7 +174,13 @@ impl fmt::Display for Difference {
     }
 }
 
+/// The times, if the sides did the same.
 pub type Measured = Result<Times, Difference>;
+
+/// The better times of two measurements of the same work.
+pub fn best_of(one: Measured, two: Measured) -> Measured {
+    Ok(one?.best(two?))
+}
 
 /// Compares one pass, then times rounds of all sides by turns.
 pub fn measure(work: &impl Workload, rounds: usize) -> Measured {

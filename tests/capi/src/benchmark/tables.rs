@@ -1,7 +1,7 @@
 //! What the tables measure.
 
 use crate::benchmark::inputs::{calls, days, runs, turns};
-use crate::benchmark::measure::{measure, Measured, Workload};
+use crate::benchmark::measure::{best_of, measure, Measured, Workload};
 
 /// Entries of the longest run that there may be.
 const LONGEST: usize = 4_000;
@@ -10,26 +10,62 @@ const ENTRY_COUNTS: [usize; 3] = [250, 1_000, LONGEST];
 
 /// What a measured operation is, for the figures below the first table.
 pub enum Operation {
+    /// A turn, or now and then a start.
     Turn,
-    Run { entries: usize },
+    /// A whole run; the row is for an entry of it.
+    Run {
+        /// How many it has.
+        entries: usize,
+    },
+    /// Anything else.
     Other,
 }
 
 /// A row of the first table.
 pub struct Row {
+    /// Its name.
     pub what: &'static str,
+    /// What is measured.
     pub operation: Operation,
+    /// The best of all rounds.
     pub measured: Measured,
 }
 
-/// Measures the rows of the first table and shows each at once.
-pub struct SideBySide<'a> {
-    pub rounds: usize,
-    pub show: &'a mut dyn FnMut(Row),
+/// So many rounds of a row are made at once. A time of some seconds in which the machine is slow meets
+/// a row in one sweep only.
+const SWEEP: usize = 20;
+
+/// Measures the rows of the first table, in so many rounds.
+pub fn side_by_side(rounds: usize) -> Vec<Row> {
+    let sweeps = rounds.div_ceil(SWEEP);
+    let mut rows = Vec::new();
+    for _ in 0..sweeps {
+        let mut sweep = Sweep {
+            rounds: rounds / sweeps,
+            rows: Vec::new(),
+        };
+        sweep.all();
+        rows = merged(rows, sweep.rows);
+    }
+    rows
 }
 
-impl SideBySide<'_> {
-    pub fn all(&mut self) {
+/// The rows of a sweep with what was measured before.
+fn merged(before: Vec<Row>, mut rows: Vec<Row>) -> Vec<Row> {
+    for (row, before) in rows.iter_mut().zip(before) {
+        row.measured = best_of(row.measured, before.measured);
+    }
+    rows
+}
+
+/// One time through all rows.
+struct Sweep {
+    rounds: usize,
+    rows: Vec<Row>,
+}
+
+impl Sweep {
+    fn all(&mut self) {
         self.turns();
         self.days();
         self.acts();
@@ -109,7 +145,7 @@ impl SideBySide<'_> {
     }
 
     fn row(&mut self, what: &'static str, operation: Operation, work: &impl Workload) {
-        (self.show)(Row {
+        self.rows.push(Row {
             what,
             operation,
             measured: measure(work, self.rounds),

@@ -13,7 +13,9 @@ pub type Entry = [u16; ENTRY_WORDS];
 
 /// Starts and turns one by one, as a print loop deals them.
 pub struct Entries {
+    /// At first.
     pub words: Words,
+    /// An act of 0 is a turn.
     pub entries: Vec<Entry>,
 }
 
@@ -47,14 +49,19 @@ impl Workload for Entries {
 
 /// A call from its start to its finish, with nobody in its way.
 pub struct WholeCall {
+    /// Who makes it.
     pub worker: u16,
+    /// How it begins.
     pub start: Start,
+    /// As many as it takes.
     pub turns: usize,
 }
 
 /// Whole calls one after another. A turn is the operation; the starts are in its time.
 pub struct WholeCalls {
+    /// At first.
     pub words: Words,
+    /// In their order.
     pub calls: Vec<WholeCall>,
 }
 
@@ -107,20 +114,26 @@ impl Workload for Fill {
 
 /// What a worker does again and again.
 pub enum Act {
+    /// Starts this call.
     Start(Start),
+    /// Takes a turn.
     Turn,
 }
 
 /// The same start or turn again and again. What it changes, a worker's record and a node at most, is put
 /// back each time; all sides pay for that alike, a nanosecond or two.
 pub struct SameAct {
+    /// Before it.
     pub words: Words,
+    /// Who does it, be there such a worker or not.
     pub worker: u16,
+    /// What it does.
     pub act: Act,
     /// Where the record stands, if it changes.
     pub record_at: Option<usize>,
     /// Where the node stands, if one changes.
     pub node_at: Option<usize>,
+    /// How often.
     pub repeats: usize,
 }
 
@@ -162,10 +175,15 @@ fn put_back<const COUNT: usize>(arena: &mut [u16], first: &[u16], at: usize) {
 
 /// Whole runs, each of another schedule and with a history of its own.
 pub struct Runs {
+    /// What all of them are lent.
     pub words: Words,
+    /// Of the arena that a run lays.
     pub workers: u16,
+    /// As well.
     pub nodes: u16,
+    /// In flat words.
     pub schedules: Vec<Vec<u16>>,
+    /// Of each run.
     pub history_words: usize,
     /// Where the waits of each run are lent.
     pub waits_rows: Vec<Range<usize>>,
@@ -213,19 +231,29 @@ impl Workload for Runs {
 
 /// A call that leaves the words as it finds them, or writes the same anew.
 pub enum Call {
-    Init { workers: u16, nodes: u16 },
+    /// With the numbers of workers and nodes.
+    Init(u16, u16),
+    /// Into the words beside the arena.
     Snapshot,
+    /// On the arena alone.
     FindFree,
-    LongestFreeRun { last_cell: u16 },
+    /// Up to this cell.
+    LongestFreeRun(u16),
+    /// On the arena alone.
     Stored,
+    /// Into the words beside the arena, with the lengths lent.
     ToLayout2,
+    /// Into the words beside the arena.
     ToLayout1,
 }
 
 /// The same call again and again.
 pub struct Repeated {
+    /// Before it and, but for what it writes anew, behind it.
     pub words: Words,
+    /// Which one.
     pub call: Call,
+    /// How often.
     pub repeats: usize,
 }
 
@@ -259,12 +287,10 @@ impl Workload for Repeated {
             ..
         } = words;
         match self.call {
-            Call::Init { workers, nodes } => {
-                self.again(reply, || library.init(arena, workers, nodes))
-            }
+            Call::Init(workers, nodes) => self.again(reply, || library.init(arena, workers, nodes)),
             Call::Snapshot => self.again(reply, || library.snapshot(arena, out)),
             Call::FindFree => self.again(reply, || library.find_free(arena)),
-            Call::LongestFreeRun { last_cell } => {
+            Call::LongestFreeRun(last_cell) => {
                 self.again(reply, || library.longest_free_run(arena, last_cell))
             }
             Call::Stored => self.again(reply, || library.stored(arena)),

@@ -3,7 +3,7 @@
 use std::process::ExitCode;
 
 use capi::benchmark::measure::{Measured, Times};
-use capi::benchmark::tables::{self, Operation, Row, SideBySide};
+use capi::benchmark::tables::{self, Operation};
 
 const USAGE: &str = "usage: benchmark [--quick | --ratios]";
 const ROUNDS: usize = 100;
@@ -47,21 +47,12 @@ fn print_tables(rounds: usize, differences: &mut Vec<String>) {
 
 /// The ratios of the first table alone, with tabs between them, for who compares several programs.
 fn print_ratios(differences: &mut Vec<String>) {
-    let show = &mut |row: Row| {
+    for row in tables::side_by_side(ROUNDS) {
         if let Some(times) = times(row.what, row.measured, differences) {
-            println!(
-                "{}\t{:.3}\t{}",
-                row.what,
-                times.of_rust(),
-                or_dash(times.of_c(), 3)
-            );
+            let (of_rust, of_c) = (times.of_rust(), or_dash(times.of_c(), 3));
+            println!("{}\t{of_rust:.3}\t{of_c}", row.what);
         }
-    };
-    SideBySide {
-        rounds: ROUNDS,
-        show,
     }
-    .all();
 }
 
 fn print_side_by_side(rounds: usize, differences: &mut Vec<String>) {
@@ -69,7 +60,7 @@ fn print_side_by_side(rounds: usize, differences: &mut Vec<String>) {
     let ratios = ["proved / Rust", "proved / C"].map(|name| format!("{name:>15}"));
     println!("{title:<33}{}{}", headings(), ratios.concat());
     let mut figures = Vec::new();
-    let show = &mut |row: Row| {
+    for row in tables::side_by_side(rounds) {
         if let Some(whole) = times(row.what, row.measured, differences) {
             let shown = match row.operation {
                 Operation::Run { entries } => whole.shared_by(entries),
@@ -79,8 +70,7 @@ fn print_side_by_side(rounds: usize, differences: &mut Vec<String>) {
             println!("{:<33}{}{of_rust:>15.2}{of_c:>15}", row.what, cells(shown));
             figures.extend(figure(row.what, &row.operation, whole));
         }
-    };
-    SideBySide { rounds, show }.all();
+    }
     println!("\n{}\n", figures.join("\n"));
 }
 

@@ -18,11 +18,9 @@ fn repeated(arena: Vec<u16>, out: usize, call: Call) -> Repeated {
     }
 }
 
+/// Layings of a fresh arena.
 pub fn inits(nodes: u16) -> Repeated {
-    let init = Call::Init {
-        workers: WORKERS,
-        nodes,
-    };
+    let init = Call::Init(WORKERS, nodes);
     repeated(vec![0; fresh(nodes).len()], 0, init)
 }
 
@@ -53,7 +51,7 @@ pub fn free_runs(labels: u16) -> Repeated {
         Label { key, length }
     };
     let arena = with_labels(MAX_NODES, (0..labels).map(label));
-    repeated(arena, 0, Call::LongestFreeRun { last_cell })
+    repeated(arena, 0, Call::LongestFreeRun(last_cell))
 }
 
 /// One for each node of the largest arena.
