@@ -13,37 +13,44 @@ use crate::library::{Library, Run, Start};
 
 /// The calls that are told apart. A turn at stage 14 makes the search for a free node.
 #[derive(Clone, Copy)]
-pub enum Kind {
+enum Kind {
     Init,
     Start,
     Turn,
     TurnAt14,
-    Snapshot,
     FindFree,
-    LongestFreeRun,
+    Snapshot,
     Stored,
+    LongestFreeRun,
     ToLayout2,
     ToLayout1,
     Run,
 }
 
-/// All of them, each with what it is called.
-pub const KINDS: [(Kind, &str); 11] = [
-    (Kind::Init, "init"),
-    (Kind::Start, "start"),
-    (Kind::Turn, "turn, but for stage 14"),
-    (Kind::TurnAt14, "turn at stage 14"),
-    (Kind::FindFree, "find_free"),
-    (Kind::Snapshot, "snapshot"),
-    (Kind::Stored, "stored"),
-    (Kind::LongestFreeRun, "longest_free_run"),
-    (Kind::ToLayout2, "to_layout_2"),
-    (Kind::ToLayout1, "to_layout_1"),
-    (Kind::Run, "run"),
+/// What they are called, in their order.
+pub const KINDS: [&str; 11] = [
+    "init",
+    "start",
+    "turn, but for stage 14",
+    "turn at stage 14",
+    "find_free",
+    "snapshot",
+    "stored",
+    "longest_free_run",
+    "to_layout_2",
+    "to_layout_1",
+    "run",
 ];
 
-/// Bytes of stack by `Kind`.
+/// Bytes of stack, in the order of `KINDS`.
 pub type Depths = [usize; KINDS.len()];
+
+/// Whether plain C has calls of this kind.
+pub fn is_in_c(kind: usize) -> bool {
+    [Kind::Start, Kind::Turn, Kind::TurnAt14]
+        .map(|kind| kind as usize)
+        .contains(&kind)
+}
 
 /// How much each call of a library takes at most, from its return address down.
 pub fn depths(library: &dyn Library) -> Depths {

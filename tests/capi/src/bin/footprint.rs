@@ -4,7 +4,7 @@ use std::process::Command;
 
 use capi::benchmark::plain_c::PlainC;
 use capi::benchmark::plain_rust::PlainRust;
-use capi::footprint::{depths, Kind, KINDS};
+use capi::footprint::{depths, is_in_c, KINDS};
 use capi::library::Proved;
 
 fn main() {
@@ -15,16 +15,14 @@ fn main() {
         "code and constants", code[0], "-", code[1]
     );
     let (proved, rust, c) = (depths(&Proved), depths(&PlainRust), depths(&PlainC));
-    for (kind, name) in KINDS {
-        let at = kind as usize;
-        let is_in_c = matches!(kind, Kind::Start | Kind::Turn | Kind::TurnAt14);
-        let c = if is_in_c {
-            c[at].to_string()
+    for (kind, name) in KINDS.iter().enumerate() {
+        let what = format!("stack of {name}");
+        let c = if is_in_c(kind) {
+            c[kind].to_string()
         } else {
             "-".into()
         };
-        let what = format!("stack of {name}");
-        println!("{what:<33}{:>9}{:>9}{c:>9}", proved[at], rust[at]);
+        println!("{what:<33}{:>9}{:>9}{c:>9}", proved[kind], rust[kind]);
     }
 }
 
