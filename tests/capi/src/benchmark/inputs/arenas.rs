@@ -4,6 +4,7 @@ use model::arena::*;
 
 use super::{LENGTH, WORKERS};
 
+/// As it is laid.
 pub fn fresh(nodes: u16) -> Vec<u16> {
     let shape = Shape::new(WORKERS, nodes).expect("good counts");
     let mut arena = vec![0; shape.total()];
@@ -41,6 +42,7 @@ pub fn with_labels(nodes: u16, labels: impl Iterator<Item = Label>) -> Vec<u16> 
     arena
 }
 
+/// Of an arena of layout 2.
 pub fn shape_of(arena: &[u16]) -> Shape {
     check_header(arena).expect("a good header")
 }
