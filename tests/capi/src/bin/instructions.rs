@@ -4,7 +4,7 @@
 use std::hint::black_box;
 use std::process::ExitCode;
 
-use capi::benchmark::inputs;
+use capi::benchmark::inputs::{runs, turns};
 use capi::benchmark::measure::Workload;
 use capi::library::Proved;
 
@@ -16,9 +16,9 @@ fn main() -> ExitCode {
     let words: Vec<String> = std::env::args().skip(1).collect();
     let words: Vec<&str> = words.iter().map(String::as_str).collect();
     let operations = match words[..] {
-        ["turn-of-a-mix"] => pass(&inputs::mixed(64, 100)),
-        ["look-up-turn"] => pass(&inputs::lookups(1_024, 1)),
-        ["entry-of-a-run"] => LONGEST * pass(&inputs::runs(64, LONGEST, 100)),
+        ["turn-of-a-mix"] => pass(&turns::mixed(64, 100)),
+        ["look-up-turn"] => pass(&turns::lookups(1_024, 1)),
+        ["entry-of-a-run"] => LONGEST * pass(&runs::runs(64, LONGEST, 100)),
         _ => {
             eprintln!("{USAGE}");
             return ExitCode::from(2);
