@@ -8,8 +8,9 @@
  *   - words lent to one call as different arguments do not overlap;
  *   - nobody else reads or writes the words during the call: a function is one atomic step only where calls on one arena take turns.
  * The library is compiled for x86-64 Linux, on processors with SSE4.2 and POPCNT (x86-64-v2: Intel's since about 2009, AMD's since 2011, the
- * small ones of both since 2013); README.md says how it is made for every x86-64, and for ARM64 Linux. It is some 11 kB of code that keeps
- * nothing between calls, allocates nothing, takes less than 4 kB of stack, and of the C library wants memset, memcpy and memmove alone.
+ * small ones of both since 2013); README.md says how it is made for every x86-64, and for ARM64 Linux. It is some 13 kB of code that keeps
+ * nothing between calls, allocates nothing, and of the C library wants memset, memcpy and memmove alone. It takes less than 4 kB of stack: a
+ * turn some 110 bytes, one that takes a free node (stage 14) 1,240, a run 1,410.
  *
  * The arena for W workers (1 to 8) and N nodes (3 to 1,024), its words counted from 0:
  *   header, 8 words    layout (2), W, N, place of the worker records (8), place of the node records (8 + 8 W), total (8 + 8 W + 5 N), count,
