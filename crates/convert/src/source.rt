@@ -8,7 +8,7 @@ ghost use Rattle.convert.specs.Layouts.{width, part_node, layout_refusals};
 use crate::layouts;
 use arena::NodeRecords;
 use words::{is_short, layout, records, word};
-use worker::{Node, Refusal, Worker};
+use worker::{Node, Refusal};
 
 // Lent words that are in order, and whether nodes have lengths there, as in layout 2; its node records, and how many there are.
 #[derive(Clone, Copy)]
@@ -51,10 +51,12 @@ impl<'a> Source<'a> {
         word(self.words, layout::WORKERS_AT)
     }
 
-    pub(crate) fn worker(self, number: u16) -> Worker
-        ensures { result ≡ worker_at self.entry.words.now number }
+    // Of a worker, where nothing else of its record is asked for.
+    #[tactic(auto, unfolding(words::specs::Records::worker_at))]
+    pub(crate) fn stage(self, number: u16) -> u16
+        ensures { result ≡ (worker_at self.entry.words.now number).stage }
     {
-        records::read_worker(self.words, number)
+        records::worker_field(self.words, number, layout::WORKER_STAGE)
     }
 }
 

@@ -38,7 +38,7 @@ fn any_above(source: Source, stage: u16) -> bool
     ensures { result ≡ any_above source.entry.words.now stage }
 {
     for number in 0..source.worker_count() {
-        if stage < source.worker(number).stage {
+        if stage < source.stage(number) {
             return true;
         }
     }

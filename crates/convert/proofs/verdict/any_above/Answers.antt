@@ -10,16 +10,16 @@ pub loop-number-init : goal.loop-number-init
 unfolding any_above
 loop-number-init c = let all : c.worker_count-number-end.result - 0 ≡ c.worker_count-number-end.result = omega arith in rw (all, c.worker_count-number-end.ensures)
 
-pub returns-then-stage-worker : goal.returns-then-stage-worker
-returns-then-stage-worker c =
+pub returns-then-stage : goal.returns-then-stage
+returns-then-stage c =
     let loop = c.loop-number in
-    let higher = rw c.worker.ensures at c.if-stage-worker.true in
+    let higher = rw c.stage.ensures at c.if-stage.true in
     rw (numbers_on loop.number (c.worker_count-number-end.result - loop.number) (omega (arith, c.loop-number-test.true)), lt-ltb _ _ higher) at loop.invariant
 
 pub loop-number-preserved : goal.loop-number-preserved
 loop-number-preserved c =
     let loop = c.loop-number in
-    let low = rw c.worker.ensures at c.if-stage-worker.false in
+    let low = rw c.stage.ensures at c.if-stage.false in
     let left : c.worker_count-number-end.result - (loop.number + 1) ≡ c.worker_count-number-end.result - loop.number - 1 = omega arith in
     rw left
     (rw (numbers_on loop.number (c.worker_count-number-end.result - loop.number) (omega (arith, c.loop-number-test.true)), le-ltb _ _ low) at loop.invariant)
