@@ -5,9 +5,10 @@ use mathlib.Core.List.{List, [], ◌∷◌, map}
 use mathlib.Core.Bool.{Bool, cond}
 use native.Mathlib.Omega.{arith}
 use native.Mathlib.Nat.{add-zero, add-suc, suc-add}
-use lib.ListN.{length, take, drop, set, replicate, length-set, length-map, length-replicate}
+use lib.ListN.{length, take, drop, set, length-set, length-map}
 use lib.Seq.{sets, sets-eq, take_at}
 use borrow.Author.Tests.{lt-ltb, le-ltb}
+use Rattle.std.specs.Borrow.{MutBor}
 use Rattle.worker.specs.Refusals.{judged}
 use Rattle.worker.specs.declared.Node.{Node}
 use Rattle.worker.specs.declared.refusal.Refusal.{Refusal}
@@ -22,29 +23,29 @@ use Rattle.arena.proofs.ShortChains.{chain_few}
 
 module _ (nodes : ℕ → Node) (count : ℕ) where
   -- where a row has room, the keys stand in it one behind the other, and are counted
-  listed_all : (places row : List ℕ) (end : ℕ) → end + length places ≤ length row →
-      shown nodes listed (record { row = row; count = end }) places
-      ≡ record { row = sets row end (keys_in (map (label_at nodes) places)); count = end + length places }
-  listed_all [] row end room = rw add-zero
-  listed_all (place ∷ places) row end room =
-      let fits : end < length row = omega arith in
+  listed_all : (lent : MutBor (List ℕ)) (places row : List ℕ) (end : ℕ) → length row ≡ 1024 → end + length places ≤ 1024 →
+      shown nodes listed (record { row = record lent { now = row }; count = end }) places
+      ≡ record { row = record lent { now = sets row end (keys_in (map (label_at nodes) places)) }; count = end + length places }
+  listed_all lent [] row end long room = rw add-zero
+  listed_all lent (place ∷ places) row end long room =
+      let fits : end < 1024 = omega arith in
       rw (lt-ltb _ _ fits, add-suc)
-      (rw suc-add at (listed_all places (set row end (nodes place).key) (suc end) (rw length-set (omega arith))))
+      (rw suc-add at (listed_all lent places (set row end (nodes place).key) (suc end) (rw length-set long) (omega arith)))
 
   abbrev keys : List ℕ
   keys = chain_keys nodes count
 
   -- a row of 1,024 words holds the keys of every set
-  pub keys_listed : (all : Keys) → count ≤ 1024 → all ≡ shown nodes listed (record { row = replicate 1024 0; count = 0 }) (set_nodes nodes count) →
-      (all.count ≡ length keys) × (length keys ≤ 1022) × (take all.count all.row ≡ keys)
+  pub keys_listed : (all : Keys) (lent : MutBor (List ℕ)) → length lent.now ≡ 1024 → count ≤ 1024 →
+      all ≡ shown nodes listed (record { row = lent; count = 0 }) (set_nodes nodes count) →
+      (all.count ≡ length keys) × (length keys ≤ 1022) × (take all.count all.row.now ≡ keys)
   unfolding chain_keys chain_labels
-  keys_listed all few told =
+  keys_listed all lent long few told =
       let places = set_nodes nodes count in
-      let row : List ℕ = replicate 1024 0 in
-      let long : length row ≡ 1024 = length-replicate {A = ℕ} 1024 0 in
+      let row = lent.now in
       let counted : length keys ≡ length places = rw (length-map, length-map) in
       let short = chain_few nodes count in
-      let here : all ≡ record { row = sets row 0 keys; count = 0 + length places } = told ∙ listed_all places row 0 (omega arith) in (
+      let here : all ≡ record { row = record lent { now = sets row 0 keys }; count = 0 + length places } = told ∙ listed_all lent places row 0 long (omega arith) in (
         rw here (omega arith),
         omega arith,
         rw (here, sets-eq keys row 0 (omega arith)) (take_at keys (drop (0 + length keys) row) _ (omega arith)),

@@ -9,14 +9,14 @@ use crate::chain::{Label, Visitor, visit_labels};
 use words::Nodes;
 use worker::Refusal;
 
-// The keys shown so far; in a row of fixed length, for there is no heap.
+// The keys shown so far, in a lent row: the count is not among its words, so that it stays in a register.
 #[derive(Drop)]
-struct Keys {
-    row: [u16; 1024],
+struct Keys<'a> {
+    row: &'a mut [u16; 1024],
     count: u16,
 }
 
-impl Visitor for Keys {
+impl<'a> Visitor for Keys<'a> {
     ghost visited = { listed };
 
     fn visit(&mut self, _node: u16, label: Label) {
@@ -39,9 +39,10 @@ pub(crate) fn write_keys(nodes: Nodes, keys: &mut [u16]) -> Result<u16, Refusal>
         (chain_keys (node_at nodes.entry.words.now) nodes.entry.count
         ++ drop (length (chain_keys (node_at nodes.entry.words.now) nodes.entry.count)) keys.old) }
 {
-    // A refusal writes nothing, so the keys wait in a row. There are no more keys than nodes.
+    // A refusal writes nothing, so the keys wait in a row; of fixed length, for there is no heap. There are no more keys than nodes.
+    let mut row = [0; 1024];
     let mut found = Keys {
-        row: [0; 1024],
+        row: &mut row,
         count: 0,
     };
     visit_labels(nodes, &mut found)?;
