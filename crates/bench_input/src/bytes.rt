@@ -3,9 +3,9 @@ ghost use Rattle.std.specs.Prelude.{◌≡◌, ◌<◌, ◌==◌, [], ◌∷◌,
 ghost use Rattle.std.specs.List.{position};
 ghost use Rattle.bench_input.specs.Bytes.{parts};
 
-pub(crate) const LINE_FEED: u8 = b'\n';
+pub const LINE_FEED: u8 = b'\n';
 
-pub(crate) const SPACE: u8 = b' ';
+pub const SPACE: u8 = b' ';
 
 // The text before the first mark and the one behind it, if there is a mark.
 #[tactic(auto, using(crate::proofs::ByteLaws::parted, crate::proofs::ByteLaws::unparted))]

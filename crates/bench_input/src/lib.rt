@@ -1,10 +1,10 @@
 // The bench program's input: what a text says, line by line.
 #![tactic(auto)]
 
-mod bytes;
+pub mod bytes;
 mod input;
 mod lines;
-mod numbers;
+pub mod numbers;
 
 pub use input::parse;
 

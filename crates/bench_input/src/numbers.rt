@@ -2,7 +2,7 @@
 ghost use Rattle.std.specs.Prelude.{◌≡◌};
 ghost use Rattle.bench_input.specs.Numbers.{digits_value, number_of};
 
-const DIGIT_ZERO: u8 = b'0';
+pub const DIGIT_ZERO: u8 = b'0';
 
 #[tactic(auto, unfolding(crate::specs::Numbers::number_of))]
 pub(crate) fn number_of(text: &[u8]) -> Option<u16>

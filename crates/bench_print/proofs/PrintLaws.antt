@@ -11,17 +11,17 @@ use Rattle.words.proofs.Runs.{sets_append, sets_out}
 use Rattle.bench_print.specs.declared.Output.{Output}
 use Rattle.bench_print.specs.Print.{place_behind, Printed, Prints}
 
-printed_none : (out : List ℕ) (at : ℕ) → Printed [] out at out at
+pub printed_none : (out : List ℕ) (at : ℕ) → Printed [] out at out at
 printed_none out at = record { bytes = refl; place = omega arith }
 
 -- a second text behind the first; where the first does not fit, there is no room for the second
 second_bytes : (a b out : List ℕ) (at : ℕ) → sets (sets out at a) (place_behind (length out) at (length a)) b ≡ sets out at (a ++ b)
 second_bytes a b out at = rw sets_append (grind (arith, sets_out, length-sets))
 
-printed_length : {a out out' : List ℕ} {at next : ℕ} → Printed a out at out' next → length out' ≡ length out
+pub printed_length : {a out out' : List ℕ} {at next : ℕ} → Printed a out at out' next → length out' ≡ length out
 printed_length {a} {out} {out'} {at} p = ap length p.bytes ∙ length-sets out at a
 
-printed_then : {a b out out' out'' : List ℕ} {at next last : ℕ} → Printed a out at out' next → Printed b out' next out'' last →
+pub printed_then : {a b out out' out'' : List ℕ} {at next last : ℕ} → Printed a out at out' next → Printed b out' next out'' last →
     Printed (a ++ b) out at out'' last
 printed_then {a} {b} {out} {out'} {out''} {at} {next} {last} p q =
     record {

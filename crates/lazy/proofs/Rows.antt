@@ -47,7 +47,7 @@ module _ (row : List Bool) where
   one_held : {node to : ℕ} → to ≤ node + 1 → holds row node ≡ true → AllHeld row node to
   one_held {node} end e other h k = let same : other ≡ node = omega arith in rw same e
 
-  held_on : {from middle to : ℕ} → AllHeld row from middle → AllHeld row middle to → AllHeld row from to
+  pub held_on : {from middle to : ℕ} → AllHeld row from middle → AllHeld row middle to → AllHeld row from to
   held_on {middle} first second node h k = elim (dec_lt node middle) [ yes l ↦ first node h l | no l ↦ second node (omega arith) k ]
 
   pub four_held_lem : (node : ℕ) {to : ℕ} → to ≤ node + 4 → four_held row node ≡ true → AllHeld row node to

@@ -71,7 +71,7 @@ module _ (arena more : List ℕ) (none : NoneHolds (header_refusals arena)) wher
   sound_here : Sound (workers_of arena) (nodes_of arena) arena
   sound_here = record { none = none; workers_are = refl; nodes_are = refl }
 
-  sound_longer : Sound (workers_of arena) (nodes_of arena) (arena ++ more)
+  pub sound_longer : Sound (workers_of arena) (nodes_of arena) (arena ++ more)
   sound_longer =
       record {
         none = none_longer;

@@ -61,7 +61,7 @@ module _ (arena other : List ℕ) (same : (at : ℕ) → at < header_width → a
       (rw (le-leb (stored_of arena) _ order.few_stored, eq-eqb (stored_of arena) _ refl) at (is_of arena none)))
 
   -- decoded, a worker is the same where its record is
-  worker_same : (v : ℕ) → (v < workers_of arena → worker_at other v ≡ worker_at arena v) → (decode other).worker v ≡ (decode arena).worker v
+  pub worker_same : (v : ℕ) → (v < workers_of arena → worker_at other v ≡ worker_at arena v) → (decode other).worker v ≡ (decode arena).worker v
   worker_same v stays =
       let workers = same 1 (omega arith) (omega arith) in
       elim (dec_lt v (workers_of arena)) [

@@ -73,6 +73,12 @@ module _ {A : Type 0} (rs : List Test) (values : List ℕ) (refuse : Refusal →
   unfolding settled
   judged_accepted e = judged_by rs values refuse accept ∙ ap (λ (r : Reply). settled r refuse accept) (sym e)
 
+-- the number of a reply is its refusal's
+pub numbered_on : (rs : List Test) (values : List ℕ) {number : ℕ} → refused number ≡ replied rs values →
+    number ≡ refusal_number (numbered number)
+numbered_on rs values {number} e =
+    let same : refused number ≡ refusing (numbered number) = e ∙ judged_numbered rs values refusing (accepted values) e in cc
+
 -- what is refused is refused whatever is asked for, and what is accepted gives it
 pub still_refused : (rs : List Test) (values asked : List ℕ) (refusal : Refusal) → refusing refusal ≡ replied rs values →
     refusing refusal ≡ replied rs asked

@@ -56,6 +56,8 @@ pub const NODE_MARK: u16 = 2;
 
 pub const NODE_OWNER: u16 = 3;
 
+pub const NODE_LENGTH: u16 = 4;
+
 // Where a worker's record stands.
 pub fn worker_from(worker: u16) -> usize
     ensures { result ≡ worker_from worker }

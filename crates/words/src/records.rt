@@ -154,12 +154,11 @@ fn read_node(nodes: &[u16], node: u16) -> Node
     requires { slot node_width node node_width ≤ length nodes.now }
     ensures { result ≡ node_at nodes.now node }
 {
-    let at = layout::slot(node, layout::NODE_KEY);
     Node {
-        key: nodes[at],
-        next: nodes[at + 1],
-        mark: nodes[at + 2],
-        owner: nodes[at + 3],
-        length: nodes[at + 4],
+        key: nodes[layout::slot(node, layout::NODE_KEY)],
+        next: nodes[layout::slot(node, layout::NODE_NEXT)],
+        mark: nodes[layout::slot(node, layout::NODE_MARK)],
+        owner: nodes[layout::slot(node, layout::NODE_OWNER)],
+        length: nodes[layout::slot(node, layout::NODE_LENGTH)],
     }
 }
