@@ -19,7 +19,7 @@ use Rattle.words.specs.Layout.{good_counts, total}
 use Rattle.words.specs.Records.{with_worker}
 use Rattle.words.specs.Replies.{refused, accepted, refusing, reply, replied}
 use Rattle.words.proofs.Bounds.{counts}
-use Rattle.words.proofs.Judged.{judged_refused, judged_accepted, given_values}
+use Rattle.words.proofs.Judged.{numbered_on, judged_numbered, judged_accepted, given_values}
 use Rattle.words.specs.Flat.{flat_words}
 use Rattle.words.specs.Entries.{entries_of, entry_width, entry_words, entry_laws, most_entries}
 use Rattle.words.proofs.FlatLaws.{flat_length}
@@ -86,10 +86,11 @@ module _ (workers nodes : ℕ) (schedule : List ℕ) where
   abbrev refusals : List Test
   refusals = run_refusals lent workers nodes schedule record_count wait_count
 
-  pub refused_text_lem : (refusal : Refusal) → refusing refusal ≡ run_answer lent workers nodes schedule record_count wait_count →
-      text_of refusal ≡ schedule_text workers nodes schedule
+  pub refused_text_lem : {number : ℕ} → refused number ≡ run_answer lent workers nodes schedule record_count wait_count →
+      refused_text number ≡ schedule_text workers nodes schedule
   unfolding schedule_text run_answer
-  refused_text_lem refusal told = sym (judged_refused refusals _ text_of (run_text workers nodes schedule) told)
+  refused_text_lem told =
+      ap refused_text (numbered_on refusals _ told) ∙ sym (judged_numbered refusals _ text_of (run_text workers nodes schedule) told)
 
   module _ (t : Totals) (told : reply totals_values (Ok t) ≡ run_answer lent workers nodes schedule record_count wait_count) where
     pub passed : Accepted lent workers nodes schedule record_count wait_count

@@ -40,12 +40,14 @@ fn print_schedule(out: &mut Output, workers: u16, nodes: u16, schedule: &[u16])
     ensures { Prints (schedule_text workers nodes schedule.now) out.old out.new }
 {
     let mut arena = [0u16; 5192];
-    let ran = history::run_thousand(&mut arena, workers, nodes, schedule);
-    match ran.summary {
+    // Rows of its own, where they are read: those that `run_thousand` hands back would be copied.
+    let mut row = [Call::default(); 1000];
+    let mut waits = [Wait::default(); Entry::MOST];
+    match history::run(&mut arena, workers, nodes, schedule, &mut row, &mut waits) {
         Err(refusal) => out.print_refused(u16::from(refusal)),
         Ok(totals) => {
-            let calls = &ran.row[0..usize::from(totals.calls)];
-            let waits = &ran.waits[0..usize::from(totals.waits)];
+            let calls = &row[0..usize::from(totals.calls)];
+            let waits = &waits[0..usize::from(totals.waits)];
             let end = layout::total(workers, nodes);
             out.print_totals(totals);
             print_calls(out, calls, waits);

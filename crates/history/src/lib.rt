@@ -112,12 +112,20 @@ pub fn run_thousand(arena: &mut [u16], workers: u16, nodes: u16, schedule: &[u16
     ensures waits { result.waits ≡ run_waits arena.old workers nodes schedule.now 1000 (replicate 4000 no_wait) }
     ensures linearizable { DoneLinearizable result.summary workers nodes schedule.now }
 {
-    let mut row = [Call::default(); 1000];
-    let mut waits = [Wait::default(); Entry::MOST];
-    let summary = run(arena, workers, nodes, schedule, &mut row, &mut waits);
-    Ran {
-        row,
-        waits,
-        summary,
-    }
+    // The rows are filled where they are handed back from: copied there, a short run took 1.4 times as long. What stands for the answer
+    // until there is one is never read.
+    let mut ran = Ran {
+        row: [Call::default(); 1000],
+        waits: [Wait::default(); Entry::MOST],
+        summary: Err(Refusal::NoRoom),
+    };
+    ran.summary = run(
+        arena,
+        workers,
+        nodes,
+        schedule,
+        &mut ran.row,
+        &mut ran.waits,
+    );
+    ran
 }
