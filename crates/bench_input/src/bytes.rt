@@ -3,8 +3,10 @@ ghost use Rattle.std.specs.Prelude.{◌≡◌, ◌<◌, ◌==◌, [], ◌∷◌,
 ghost use Rattle.std.specs.List.{position};
 ghost use Rattle.bench_input.specs.Bytes.{parts};
 
+/// The byte that ends a line.
 pub const LINE_FEED: u8 = b'\n';
 
+/// The byte between two fields of a line.
 pub const SPACE: u8 = b' ';
 
 // The text before the first mark and the one behind it, if there is a mark.

@@ -2,6 +2,7 @@
 ghost use Rattle.std.specs.Prelude.{◌≡◌};
 ghost use Rattle.bench_input.specs.Numbers.{digits_value, number_of};
 
+/// The byte of the digit 0; those of the others follow it.
 pub const DIGIT_ZERO: u8 = b'0';
 
 #[tactic(auto, unfolding(crate::specs::Numbers::number_of))]
